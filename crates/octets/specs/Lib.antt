@@ -1,0 +1,4 @@
+pub mod Bits
+pub mod Cause
+pub mod Count
+pub mod Field
