@@ -1,0 +1,51 @@
+ghost use Rattle.std.specs.Prelude.{◌≡◌};
+ghost use Rattle.outside.specs.declared.file_id.OutFault.TheVariants.{NoMemory as OutOfMemory};
+
+use octets::NoMemory;
+
+/// Which file of a command is meant. `Report` is the sink. A number is that of an edge.
+#[derive(Clone, Copy, Debug, PartialEq, Eq, Hash)]
+pub enum FileId {
+    Config,
+    Options,
+    InLan(u32),
+    InAccess,
+    InCore,
+    OutLan(u32),
+    OutAccess,
+    OutCore,
+    OutUnrouted,
+    Trace,
+    Report,
+}
+
+/// Whether a call read or wrote.
+#[derive(Clone, Copy, Debug, PartialEq, Eq, Hash)]
+pub enum Way {
+    Read,
+    Write,
+}
+
+/// A call of a folder that failed.
+#[derive(Clone, Copy, Debug, PartialEq, Eq, Hash)]
+pub struct Failure {
+    pub file: FileId,
+    pub way: Way,
+}
+
+/// Why a call of the outside didn't answer Ok.
+#[derive(Clone, Copy, Debug, PartialEq, Eq, Hash)]
+pub enum OutFault {
+    /// The outside failed, and counted it.
+    Failed,
+    /// Memory ran out, and nothing changed.
+    NoMemory,
+}
+
+impl From<NoMemory> for OutFault {
+    ghost from_gives = { λ _ e. e ≡ OutOfMemory };
+
+    fn from(_: NoMemory) -> Self {
+        OutFault::NoMemory
+    }
+}

@@ -1,0 +1,57 @@
+ghost use Rattle.std.specs.Prelude.{◌≡◌, [], ◌++◌, Some};
+
+use crate::file_id::OutFault;
+use crate::sink::Sink;
+use octets::Bytes;
+use std::alloc::Global;
+
+/// A sink in memory whose listed calls, counted from 0, fail and add nothing.
+#[derive(Drop)]
+pub struct MemSink {
+    text: Bytes,
+    failing_puts: Vec<u64>,
+    puts: u64,
+    faults: u64,
+}
+
+impl MemSink {
+    ghost use Rattle.outside.specs.InMemory.{memory_text};
+
+    /// A sink without text, in which these calls fail.
+    pub fn new(alloc: Global, puts: Vec<u64>) -> MemSink
+        ensures { memory_text result ≡ [] }
+    {
+        MemSink {
+            text: Bytes::new(alloc),
+            failing_puts: puts,
+            puts: 0,
+            faults: 0,
+        }
+    }
+
+    /// All that was put.
+    pub fn as_slice(&self) -> &[u8]
+        ensures { result.now ≡ memory_text self.now }
+    {
+        self.text.as_slice()
+    }
+}
+
+impl Sink for MemSink {
+    ghost use Rattle.std.specs.Prelude.{Some};
+
+    ghost written = { λ s. Some s.text };
+
+    ghost faults = { λ s. s.faults };
+
+    fn put(&mut self, _alloc: Global, bytes: &[u8]) -> Result<(), OutFault> {
+        let call = self.puts;
+        self.puts = call.saturating_add(1);
+        if self.failing_puts.contains(&call) {
+            self.faults = self.faults.saturating_add(1);
+            return Err(OutFault::Failed);
+        }
+        self.text.extend(bytes)?;
+        Ok(())
+    }
+}

@@ -1,0 +1,85 @@
+ghost use Rattle.std.specs.Prelude.{◌≡◌, ◌++◌, Some, None, OnOk, OnErr};
+ghost use Rattle.std.specs.FinMap as map;
+ghost use Rattle.std.specs.Option.{option_copied};
+ghost use Rattle.outside.specs.Files.{with_file};
+
+use crate::file_id::{FileId, OutFault};
+use crate::folder::Folder;
+use crate::store::{Store, copy_piece};
+use octets::NoMemory;
+use std::alloc::Global;
+
+/// A folder in memory that never fails. A file that isn't there reads as an empty one.
+#[derive(Drop)]
+pub struct SureFolder {
+    alloc: Global,
+    store: Store,
+    handed: u64,
+}
+
+impl SureFolder {
+    ghost use Rattle.outside.specs.InMemory.{sure_files};
+
+    /// A folder without files.
+    pub fn new(alloc: Global) -> SureFolder
+        ensures { sure_files result ≡ map.empty }
+    {
+        SureFolder {
+            alloc,
+            store: Store::new(alloc),
+            handed: 0,
+        }
+    }
+
+    /// Sets a file. It counts as no call.
+    pub fn put_file(&mut self, name: &str, bytes: &[u8]) -> Result<(), NoMemory>
+        ensures ok { OnOk result (sure_files self.new ≡ with_file (sure_files self.old) name.now bytes.now) }
+        ensures err { OnErr result (sure_files self.new ≡ sure_files self.old) }
+    {
+        self.store.put(self.alloc, name, bytes)
+    }
+
+    /// What a file holds, if it is there.
+    pub fn file(&self, name: &str) -> Option<&[u8]>
+        ensures { option_copied result ≡ map.get (sure_files self.now) name.now }
+    {
+        self.store.file(name)
+    }
+}
+
+impl Folder for SureFolder {
+    ghost use Rattle.std.specs.Prelude.{Some, None};
+
+    ghost files = { λ s. Some s.store };
+
+    ghost handed = { λ s. s.handed };
+
+    ghost faults = { λ s. 0 };
+
+    ghost last = { λ s. None };
+
+    fn read_at(
+        &mut self,
+        _alloc: Global,
+        _file: FileId,
+        name: &str,
+        offset: u64,
+        buf: &mut [u8],
+    ) -> Result<usize, OutFault> {
+        let content = self.store.file(name).unwrap_or(&[]);
+        let count = copy_piece(content, offset, buf);
+        self.handed = self.handed.saturating_add(count as u64);
+        Ok(count)
+    }
+
+    fn write(
+        &mut self,
+        alloc: Global,
+        _file: FileId,
+        name: &str,
+        bytes: &[u8],
+    ) -> Result<(), OutFault> {
+        self.store.put(alloc, name, bytes)?;
+        Ok(())
+    }
+}

@@ -1,0 +1,45 @@
+ghost use Rattle.std.specs.Prelude.{◌≡◌, [], ◌++◌, Some};
+
+use crate::file_id::OutFault;
+use crate::sink::Sink;
+use octets::Bytes;
+use std::alloc::Global;
+
+/// A sink in memory that never fails.
+#[derive(Drop)]
+pub struct SureSink {
+    text: Bytes,
+}
+
+impl SureSink {
+    ghost use Rattle.outside.specs.InMemory.{sure_text};
+
+    /// A sink without text.
+    pub fn new(alloc: Global) -> SureSink
+        ensures { sure_text result ≡ [] }
+    {
+        SureSink {
+            text: Bytes::new(alloc),
+        }
+    }
+
+    /// All that was put.
+    pub fn as_slice(&self) -> &[u8]
+        ensures { result.now ≡ sure_text self.now }
+    {
+        self.text.as_slice()
+    }
+}
+
+impl Sink for SureSink {
+    ghost use Rattle.std.specs.Prelude.{Some};
+
+    ghost written = { λ s. Some s.text };
+
+    ghost faults = { λ s. 0 };
+
+    fn put(&mut self, _alloc: Global, bytes: &[u8]) -> Result<(), OutFault> {
+        self.text.extend(bytes)?;
+        Ok(())
+    }
+}
