@@ -1,0 +1,8 @@
+//! IPv6 packets by their grammar (RFC 8200): the header, its chain of extension headers, and the one
+//! form in which a packet is written.
+#![tactic(auto)]
+
+mod head;
+mod layout;
+
+pub use head::{Frag6, Head6};

@@ -1,0 +1,52 @@
+//! ICMP of both versions (RFC 792, RFC 4443).
+ghost use Rattle.std.specs.Prelude.{◌≡◌, ◌<◌, ◌≤◌, ◌↔◌, IsTrue, length};
+ghost use Rattle.octets.specs.declared.proto.Proto.TheVariants.{Icmp};
+ghost use Rattle.l4_headers.specs.Transport.{l4_of, with_l4};
+
+use crate::{L4, Ports};
+use byteorder::{BigEndian, ByteOrder};
+
+const KIND: usize = 0;
+
+const SUM: usize = 2;
+
+const IDENTIFIER: usize = 4;
+/// The octets of the header.
+const HEADER: usize = 8;
+
+/// The types of queries: echo reply and request of ICMPv4, then echo request and reply of ICMPv6.
+const QUERIES: [u8; 4] = [0, 8, 128, 129];
+
+/// Whether the header doesn't stand there.
+pub fn is_bad(payload: &[u8]) -> bool
+    ensures { IsTrue result ↔ (length payload.now < HEADER) }
+{
+    payload.len() < HEADER
+}
+
+/// The sum, and octets 4 and 5 as both ports.
+pub fn read(payload: &[u8]) -> L4
+    requires { HEADER ≤ length payload.now }
+    ensures { result ≡ l4_of Icmp payload.now }
+{
+    let identifier = BigEndian::read_u16(&payload[IDENTIFIER..]);
+    L4 {
+        ports: Ports {
+            src: identifier,
+            dst: identifier,
+        },
+        sum: BigEndian::read_u16(&payload[SUM..]),
+        flags: 0,
+    }
+}
+
+/// Replaces the sum, and the identifier of a query.
+pub fn set(payload: &mut [u8], ports: Ports, sum: u16)
+    requires { HEADER ≤ length payload.old }
+    ensures { payload.new ≡ with_l4 Icmp payload.old ports sum }
+{
+    if QUERIES.contains(&payload[KIND]) {
+        BigEndian::write_u16(&mut payload[IDENTIFIER..], ports.src);
+    }
+    BigEndian::write_u16(&mut payload[SUM..], sum);
+}

@@ -1,0 +1,55 @@
+//! TCP (RFC 9293 section 3.1).
+ghost use Rattle.std.specs.Prelude.{◌≡◌, ◌≤◌, ◌↔◌, IsTrue, length};
+ghost use Rattle.octets.specs.declared.proto.Proto.TheVariants.{Tcp};
+ghost use Rattle.l4_headers.specs.Transport.{IsBadTransport, l4_of, with_l4};
+
+use crate::{L4, Ports};
+use byteorder::{BigEndian, ByteOrder};
+
+const SRC: usize = 0;
+
+const DST: usize = 2;
+
+const DATA_OFFSET: usize = 12;
+
+const FLAGS: usize = 13;
+
+const SUM: usize = 16;
+/// The octets of a header without options.
+const HEADER: usize = 20;
+
+/// Whether the header doesn't stand there, or a whole packet's data offset is below it or past the payload.
+pub fn is_bad(payload: &[u8], whole: bool) -> bool
+    ensures { IsTrue result ↔ IsBadTransport Tcp payload.now whole }
+{
+    if payload.len() < HEADER {
+        return true;
+    }
+    let header = usize::from(payload[DATA_OFFSET] >> 4) * 4;
+    whole && (header < HEADER || payload.len() < header)
+}
+
+/// The header's ports, sum and flags.
+pub fn read(payload: &[u8]) -> L4
+    requires { HEADER ≤ length payload.now }
+    ensures { result ≡ l4_of Tcp payload.now }
+{
+    L4 {
+        ports: Ports {
+            src: BigEndian::read_u16(&payload[SRC..]),
+            dst: BigEndian::read_u16(&payload[DST..]),
+        },
+        sum: BigEndian::read_u16(&payload[SUM..]),
+        flags: payload[FLAGS],
+    }
+}
+
+/// Replaces the ports and the sum.
+pub fn set(payload: &mut [u8], ports: Ports, sum: u16)
+    requires { HEADER ≤ length payload.old }
+    ensures { payload.new ≡ with_l4 Tcp payload.old ports sum }
+{
+    BigEndian::write_u16(&mut payload[SRC..], ports.src);
+    BigEndian::write_u16(&mut payload[DST..], ports.dst);
+    BigEndian::write_u16(&mut payload[SUM..], sum);
+}

@@ -1,0 +1,52 @@
+//! UDP (RFC 768).
+ghost use Rattle.std.specs.Prelude.{◌≡◌, ◌≤◌, ◌↔◌, IsTrue, length};
+ghost use Rattle.octets.specs.declared.proto.Proto.TheVariants.{Udp};
+ghost use Rattle.l4_headers.specs.Transport.{IsBadTransport, l4_of, with_l4};
+
+use crate::{L4, Ports};
+use byteorder::{BigEndian, ByteOrder};
+
+const SRC: usize = 0;
+
+const DST: usize = 2;
+
+const LENGTH: usize = 4;
+
+const SUM: usize = 6;
+/// The octets of the header.
+const HEADER: usize = 8;
+
+/// Whether the header doesn't stand there, or a whole packet's length isn't the payload's.
+pub fn is_bad(payload: &[u8], whole: bool) -> bool
+    ensures { IsTrue result ↔ IsBadTransport Udp payload.now whole }
+{
+    if payload.len() < HEADER {
+        return true;
+    }
+    whole && usize::from(BigEndian::read_u16(&payload[LENGTH..])) != payload.len()
+}
+
+/// The header's ports and sum.
+pub fn read(payload: &[u8]) -> L4
+    requires { HEADER ≤ length payload.now }
+    ensures { result ≡ l4_of Udp payload.now }
+{
+    L4 {
+        ports: Ports {
+            src: BigEndian::read_u16(&payload[SRC..]),
+            dst: BigEndian::read_u16(&payload[DST..]),
+        },
+        sum: BigEndian::read_u16(&payload[SUM..]),
+        flags: 0,
+    }
+}
+
+/// Replaces the ports and the sum.
+pub fn set(payload: &mut [u8], ports: Ports, sum: u16)
+    requires { HEADER ≤ length payload.old }
+    ensures { payload.new ≡ with_l4 Udp payload.old ports sum }
+{
+    BigEndian::write_u16(&mut payload[SRC..], ports.src);
+    BigEndian::write_u16(&mut payload[DST..], ports.dst);
+    BigEndian::write_u16(&mut payload[SUM..], sum);
+}

@@ -1,0 +1,3 @@
+pub mod Embedding
+pub mod Address
+pub mod Shape

@@ -1,0 +1,4 @@
+pub mod Capture
+pub mod Form
+pub mod Grammar
+pub mod Written

@@ -1,0 +1,14 @@
+//! Capture files in the classic pcap format: a reader of every form of it, and a writer of one.
+#![tactic(auto)]
+
+mod fault;
+mod form;
+mod frame;
+mod reader;
+mod records;
+mod writer;
+
+pub use fault::CaptureFault;
+pub use reader::read;
+pub use records::{Record, Records};
+pub use writer::Writer;

@@ -1,0 +1,90 @@
+ghost use Rattle.std.specs.Prelude.{◌≡◌, ◌≤◌, length, IfOk, IfSome};
+ghost use Rattle.pcap_files.specs.Capture.{Gives, entry_len, record_of, records_at, capture};
+
+use crate::form::{Form, HEADER_LEN};
+use crate::frame::packet;
+use crate::{CaptureFault, Record, Records};
+use octets::{Bytes, NoMemory};
+use std::alloc::Global;
+
+/// The places of the fields before a record's captured octets. The original length isn't looked at.
+const SECONDS: usize = 0;
+const FRACTION: usize = 4;
+const CAPTURED: usize = 8;
+
+/// The octets before a record's captured ones.
+const ENTRY_LEN: usize = 16;
+
+/// The octets of the first record, if all of them stand there.
+#[tactic(auto, unfolding(crate::specs::Capture::entry_len))]
+fn len_of_first(form: Form, octets: &[u8]) -> Option<usize>
+    ensures exact { result ≡ entry_len form octets.now }
+    ensures least { IfSome result (λ len. 16 ≤ len) }
+    ensures most { IfSome result (λ len. len ≤ length octets.now) }
+{
+    if octets.len() < ENTRY_LEN {
+        return None;
+    }
+    let captured = form.order.u32_at(octets, CAPTURED) as usize;
+    if octets.len() - ENTRY_LEN < captured {
+        return None;
+    }
+    Some(ENTRY_LEN + captured)
+}
+
+/// The record that these octets are.
+#[tactic(auto, unfolding(crate::specs::Capture::record_of))]
+fn record_from(alloc: Global, form: Form, octets: &[u8]) -> Result<Record, NoMemory>
+    requires { 16 ≤ length octets.now }
+    ensures { IfOk result (λ r. r ≡ record_of form octets.now) }
+{
+    let seconds = u64::from(form.order.u32_at(octets, SECONDS));
+    let micros = form.unit.micros(form.order.u32_at(octets, FRACTION));
+    let mut bytes = Bytes::new(alloc);
+    bytes.extend(packet(form.link, &octets[ENTRY_LEN..]))?;
+    Ok(Record {
+        time: seconds * 1_000_000 + u64::from(micros),
+        bytes,
+    })
+}
+
+/// The records that stand one after the other, at most `room` of them.
+fn records_in(
+    alloc: Global,
+    form: Form,
+    octets: &[u8],
+    room: u32,
+) -> Result<Vec<Record>, CaptureFault>
+    ensures { Gives (λ v. v.items) result (records_at form 0 room octets.now) }
+{
+    let mut records = Vec::new(alloc);
+    let mut rest = octets;
+    for number in 0..room {
+        if rest.is_empty() {
+            return Ok(records);
+        }
+        let Some(len) = len_of_first(form, rest) else {
+            return Err(CaptureFault::Cut(number));
+        };
+        let (first, after) = rest.split_at(len);
+        records.push(record_from(alloc, form, first)?)?;
+        rest = after;
+    }
+    if !rest.is_empty() {
+        return Err(CaptureFault::TooManyRecords);
+    }
+    Ok(records)
+}
+
+/// Reads a capture in the classic pcap format (draft-ietf-opsawg-pcap), of which at most `room` records
+/// are taken: in either byte order, with microseconds or nanoseconds, of raw IP packets or of Ethernet
+/// frames with one IEEE 802.1Q tag or none.
+#[tactic(auto, unfolding(crate::specs::Capture::capture))]
+pub fn read(alloc: Global, octets: &[u8], room: u32) -> Result<Records, CaptureFault>
+    ensures { Gives (λ r. r) result (capture room octets.now) }
+{
+    let form = Form::read(octets)?;
+    let (_header, entries) = octets.split_at(HEADER_LEN);
+    let records = records_in(alloc, form, entries, room)?;
+    Ok(Records::of(records))
+}
