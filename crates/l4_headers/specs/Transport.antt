@@ -1,5 +1,5 @@
 -- Transport headers by their fields: TCP (RFC 9293 section 3.1), UDP (RFC 768), ICMP (RFC 792, RFC 4443).
-use Rattle.std.specs.Prelude.{◌≡◌, ◌≢◌, ℕ, ◌+◌, ◌*◌, ◌/◌, ◌<◌, ◌≤◌, ◌⊎◌, Bool, IsTrue, ◌==◌, ◌||◌, if◌then◌else◌, List, ◌++◌, length, take, drop}
+use Rattle.std.specs.Prelude.{◌≢◌, ℕ, ◌+◌, ◌*◌, ◌/◌, ◌<◌, ◌⊎◌, Bool, IsTrue, ◌==◌, ◌||◌, if◌then◌else◌, List, ◌++◌, length, take, drop}
 use Rattle.octets.specs.declared.proto.Proto.{Proto}
 use Rattle.octets.specs.declared.proto.Proto.TheVariants.{Tcp, Udp, Icmp}
 use Rattle.octets.specs.Field.{octet, word, in_word}

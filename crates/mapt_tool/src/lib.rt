@@ -2,7 +2,9 @@
 #![tactic(auto)]
 
 mod carrying;
+mod home;
 mod plan;
+mod reading;
 mod status;
 mod words;
 

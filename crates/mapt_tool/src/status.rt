@@ -1,6 +1,8 @@
 ghost use Rattle.std.specs.Prelude.{◌≡◌};
 ghost use Rattle.mapt_tool.specs.Status.{number_of};
+ghost use Rattle.mapt_tool.specs.declared.status.Status.TheVariants.{NoMemory as OutOfMemory};
 
+use octets::NoMemory;
 use outside::FileId;
 
 /// How a command ended.
@@ -36,5 +38,13 @@ impl Status {
             Status::NoMemory => 9,
             Status::NotBuilt(_) => 11,
         }
+    }
+}
+
+impl From<NoMemory> for Status {
+    ghost from_gives = { λ _ status. status ≡ OutOfMemory };
+
+    fn from(_: NoMemory) -> Self {
+        Status::NoMemory
     }
 }

@@ -1,0 +1,4 @@
+pub mod CauseLemmas
+pub mod OptionLemmas
+pub mod PartLemmas
+pub mod WrittenLemmas

@@ -1,0 +1,13 @@
+use Rattle.std.proofs.Common.{◌≡◌, sym, subst, rules, arith}
+use Rattle.ip4_packet.specs.Written.{written4}
+use Rattle.ip4_packet.specs.Grammar.{Is4}
+use Rattle.ip4_packet.specs.Causes.{HasNoCause4}
+use Rattle.ip4_packet.proofs.WrittenLemmas.{written_again}
+use Rattle.ip4_packet.proofs.head.Head4.write.Goals as goal
+
+pub returns-clause-again : goal.returns-clause-again
+returns-clause-again c = λ is_sound.
+    let h = c.args.self.now in
+    let payload = c.args.payload.now in
+    let e : c.extend-2.new.self ≡ written4 h payload = search rules in
+    rw e (written_again h payload c.header.ensures.in_range c.requires.bare c.requires.unrouted c.requires.offset is_sound)

@@ -1,0 +1,4 @@
+pub mod Causes
+pub mod Grammar
+pub mod Options
+pub mod Written

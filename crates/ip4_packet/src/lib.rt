@@ -1,0 +1,12 @@
+//! IPv4 packets by their grammar (RFC 791): the header with its options, and the one form in which a
+//! packet is written.
+#![tactic(auto)]
+
+mod fault;
+mod field;
+mod head;
+mod layout;
+mod options;
+mod read;
+
+pub use head::Head4;

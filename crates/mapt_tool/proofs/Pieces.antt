@@ -1,0 +1,29 @@
+-- Reading a file piece by piece.
+use Rattle.std.proofs.Common.{◌≡◌, ℕ, ◌+◌, ◌≤◌, List, [], ◌++◌, length, take, drop, Option, None, Some, refl, sym, ap, ◌∙◌, arith, take-add}
+use Rattle.std.proofs.lemmas.List.{length-append, length-take}
+use Rattle.octets.specs.Count.{counted}
+use Rattle.outside.specs.Files.{Files, content_of, IsPiece}
+use Rattle.mapt_tool.specs.Read.{HoldsFrom}
+
+-- the octets so far are the file's first ones, and all that was handed out
+pub record HasRead {F : Type 0} (files : F → Option Files) (handed faults : F → ℕ) (old now : F) (name octets : List ℕ) (limit room : ℕ) : Type 0 where
+  pub holds : HoldsFrom (files old) name octets
+  pub same : files now ≡ files old
+  pub handed_out : handed now ≡ counted (handed old) (length octets)
+  pub unfailed : faults now ≡ faults old
+  pub rises : handed old ≤ handed now
+  pub within : length octets ≤ limit + 1
+  pub piece : room ≡ 65536
+
+-- a piece goes on where the octets so far end
+pub goes_on : (files : Option Files) (name octets buffer : List ℕ) (n : ℕ) → n ≤ length buffer → IsPiece files name (length octets) n buffer → HoldsFrom files name octets → HoldsFrom files name (octets ++ take n buffer)
+goes_on None name octets buffer n fits piece holds = tt
+goes_on (Some files) name octets buffer n fits piece holds =
+    let content = content_of files name in
+    let len : length (octets ++ take n buffer) ≡ length octets + n = omega (arith, length-append octets (take n buffer), length-take n buffer) in
+    ap (λ (front : List ℕ). front ++ take n buffer) holds ∙ ap (λ (back : List ℕ). take (length octets) content ++ back) piece.octets ∙ sym (take-add (length octets) n content) ∙ ap (λ (k : ℕ). take k content) (sym len)
+
+-- no octets are the first ones of any file
+pub holds_none : (files : Option Files) (name : List ℕ) → HoldsFrom files name []
+holds_none None name = tt
+holds_none (Some files) name = refl

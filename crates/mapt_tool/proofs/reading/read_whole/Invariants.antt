@@ -1,0 +1,14 @@
+use Rattle.std.proofs.Common.{◌≡◌, ℕ, ◌≤◌, ◌+◌, ◌-◌, List, length, Option}
+use Rattle.octets.specs.Count.{counted}
+use Rattle.outside.specs.Files.{Files}
+use Rattle.mapt_tool.specs.Read.{HoldsFrom}
+use Rattle.mapt_tool.proofs.Pieces.{HasRead}
+use Rattle.mapt_tool.proofs.reading.read_whole.Given as goal
+
+abbrev pub invariant-pieces : goal.invariant-pieces
+invariant-pieces g l =
+    let folder = g.F.Folder in
+    HasRead folder.files folder.handed folder.faults l.fn.folder l.folder l.name l.bytes l.limit (length l.piece.items)
+
+abbrev pub decreases-pieces : goal.decreases-pieces
+decreases-pieces g l = l.limit + 1 - length l.bytes
