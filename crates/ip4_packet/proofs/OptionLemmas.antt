@@ -1,8 +1,8 @@
 -- Walking options one after the other, as a loop does.
-use Rattle.std.proofs.Common.{◌≡◌, ℕ, zero, suc, ◌+◌, ◌-◌, ◌<◌, ◌≤◌, Bool, true, false, cond, ◌||◌, ◌&&◌, eqb, ltb, leb, List, [], ◌∷◌, length, get_or, take, drop, Option, None, Some, ◌⊎◌, inl, inr, refl, sym, ap, subst, ◌∙◌, arith}
-use Rattle.std.proofs.lemmas.Bool.{cases_lt, ltb-false, le-ltb, lt-ltb, ne_eqb, eq-eqb}
+use Rattle.std.proofs.Common.{◌≡◌, ℕ, zero, suc, ◌-◌, ◌<◌, ◌≤◌, Bool, true, false, cond, ◌||◌, ◌&&◌, leb, List, [], ◌∷◌, length, get_or, take, drop, Option, None, Some, ◌⊎◌, inl, inr, refl, sym, ap, ◌∙◌, arith}
+use Rattle.std.proofs.lemmas.Bool.{le-ltb, lt-ltb, ne_eqb, eq-eqb}
 use Rattle.std.proofs.lemmas.List.{length-take-le, get_or-take, take_rest}
-use Rattle.ip4_packet.specs.Options.{is_source_route, least_length, is_unspent, beside, routed_in, IsWholeOption, IsFirstOption}
+use Rattle.ip4_packet.specs.Options.{is_source_route, least_length, is_unspent, beside, routed_in, IsFirstOption}
 
 -- an option that began goes on for as long as it says
 skipped : (n : ℕ) (octets : List ℕ) → n ≤ length octets → routed_in n octets ≡ routed_in 0 (drop n octets)

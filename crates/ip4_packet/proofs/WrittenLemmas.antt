@@ -1,14 +1,13 @@
 -- What is written is read again.
-use Rattle.std.proofs.Common.{◌≡◌, ℕ, ◌+◌, ◌-◌, ◌*◌, ◌/◌, ◌%◌, ◌^◌, ◌<◌, ◌≤◌, Bool, true, false, List, [], ◌∷◌, ◌++◌, length, take, Some, ◌⊎◌, inl, inr, refl, sym, ap, ◌∙◌, arith}
-use Rattle.octets.specs.Field.{octet, word, quad, in_word, in_quad}
+use Rattle.std.proofs.Common.{◌≡◌, ℕ, ◌+◌, ◌-◌, ◌*◌, ◌/◌, ◌%◌, ◌^◌, ◌<◌, Bool, true, false, List, [], ◌∷◌, ◌++◌, length, take, inl, inr, refl, sym, arith}
+use Rattle.octets.specs.Field.{in_word, in_quad}
 use Rattle.octets.specs.Bits.{bits_at}
-use Rattle.octets.specs.declared.cause.Cause.TheVariants.{NotIp, Truncated, BadHeader, BadHeaderSum, BadDestination}
-use Rattle.inet_sum.specs.Sum.{words, check_sum, IsRight}
+use Rattle.inet_sum.specs.Sum.{words, IsRight}
 use Rattle.inet_sum.proofs.Laws.{right_with_check}
 use Rattle.ip4_packet.specs.declared.head.Head4.{Head4}
 use Rattle.ip4_packet.specs.Written.{bit_of, fragment_field, header_with, header4, written4, IsInRange}
-use Rattle.ip4_packet.specs.Grammar.{header_len, total_len, HasFields4, Is4, payload_of}
-use Rattle.ip4_packet.specs.Causes.{IsNotIp4, IsTruncated4, IsBadHeader4, IsWrongFragment, IsNoDestination4, HasCause4, HasNoCause4, IsSound4}
+use Rattle.ip4_packet.specs.Grammar.{HasFields4, Is4}
+use Rattle.ip4_packet.specs.Causes.{IsNotIp4, IsTruncated4, IsBadHeader4, IsWrongFragment, IsNoDestination4, HasNoCause4, IsSound4}
 use Rattle.std.proofs.lemmas.List.{take_all}
 use Rattle.ip4_packet.proofs.OptionLemmas.{ends}
 use Rattle.ip4_packet.proofs.CauseLemmas.{spared, below}
@@ -73,6 +72,7 @@ written_fields h payload fits bare low = record {
   src = omega (arith, fits.src);
   dst = omega (arith, fits.dst);
 }
+
 -- the written packet holds these fields and this payload, without a cause
 pub written_again : (h : Head4) (payload : List ℕ) → IsInRange h → h.head_len ≡ 20 → h.routed ≡ false → h.offset < 8192 → IsSound4 h payload
     → Is4 h payload (written4 h payload) × HasNoCause4 (written4 h payload)

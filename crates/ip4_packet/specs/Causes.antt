@@ -1,9 +1,9 @@
 -- For what a reader of the header refuses octets as an IPv4 packet. A packet's cause is the least that holds.
-use Rattle.std.specs.Prelude.{◌≡◌, ◌≢◌, ℕ, ◌+◌, ◌-◌, ◌*◌, ◌/◌, ◌%◌, ◌^◌, ◌<◌, ◌⊎◌, List, length, take, Option, None, Result, Ok, Err}
+use Rattle.std.specs.Prelude.{◌≡◌, ◌≢◌, ℕ, ◌+◌, ◌-◌, ◌*◌, ◌/◌, ◌%◌, ◌^◌, ◌<◌, ◌⊎◌, List, length, take, None, Result, Ok, Err}
 use Rattle.octets.specs.declared.cause.Cause.{Cause}
 use Rattle.octets.specs.declared.cause.Cause.TheVariants.{NotIp, Truncated, BadHeader, BadHeaderSum, BadDestination}
 use Rattle.octets.specs.Cause.{number_of}
-use Rattle.octets.specs.Field.{octet, word, quad}
+use Rattle.octets.specs.Field.{octet, quad}
 use Rattle.inet_sum.specs.Sum.{IsRight}
 use Rattle.ip4_packet.specs.Options.{routed_in}
 use Rattle.ip4_packet.specs.Written.{bit_of}

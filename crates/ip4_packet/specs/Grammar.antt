@@ -1,5 +1,5 @@
 -- What octets hold an IPv4 packet (RFC 791, section 3.1). Octets after the total length belong to no packet.
-use Rattle.std.specs.Prelude.{◌≡◌, ℕ, ◌+◌, ◌-◌, ◌*◌, ◌/◌, ◌%◌, ◌<◌, ◌≤◌, List, length, Option, Some}
+use Rattle.std.specs.Prelude.{◌≡◌, ℕ, ◌-◌, ◌*◌, ◌/◌, ◌%◌, ◌≤◌, List, length, Some}
 use Rattle.octets.specs.Bits.{bits_at}
 use Rattle.octets.specs.Field.{octet, word, quad, part}
 use Rattle.ip4_packet.specs.declared.head.Head4.{Head4}

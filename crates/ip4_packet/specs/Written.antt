@@ -1,6 +1,6 @@
 -- The one form in which an IPv4 packet is written (RFC 791, section 3.1): a header of 20 octets with no
 -- options, the reserved flag 0 and the right sum, then the payload, and nothing after it.
-use Rattle.std.specs.Prelude.{ℕ, ◌+◌, ◌*◌, ◌^◌, ◌<◌, Bool, if◌then◌else◌, List, [], ◌∷◌, ◌++◌}
+use Rattle.std.specs.Prelude.{ℕ, ◌+◌, ◌*◌, ◌^◌, ◌<◌, Bool, if◌then◌else◌, List, ◌∷◌, ◌++◌}
 use Rattle.octets.specs.Field.{in_word, in_quad}
 use Rattle.inet_sum.specs.Sum.{words, check_sum}
 use Rattle.ip4_packet.specs.declared.head.Head4.{Head4}

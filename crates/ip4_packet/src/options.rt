@@ -4,7 +4,9 @@ ghost use Rattle.std.specs.Prelude.{◌≡◌, ◌≤◌, MatchOption, None};
 ghost use Rattle.octets.specs.Field.{octet};
 ghost use Rattle.ip4_packet.specs.Options.{is_source_route, least_length, is_unspent, routed_in, IsFirstOption, IsWholeOption};
 
-use crate::layout::{LOOSE_ROUTE, OPTION_END, OPTION_LEN_AT, OPTION_NONE, POINTER_AT, STRICT_ROUTE};
+use crate::layout::{
+    LOOSE_ROUTE, OPTION_END, OPTION_LEN_AT, OPTION_NONE, POINTER_AT, STRICT_ROUTE,
+};
 
 /// A source route, loose or strict.
 fn is_source_route(kind: u8) -> bool

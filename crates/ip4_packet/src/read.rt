@@ -10,13 +10,14 @@ ghost use Rattle.ip4_packet.specs.Causes.{IsTruncated4, IsBadHeader4, HasNoCause
 ghost use Rattle.ip4_packet.specs.Written.{bit_of};
 
 use crate::fault::{
-    has_right_sum, header_len, is_no_destination, is_not_ip, is_truncated, is_wrong_fragment, total_len,
+    has_right_sum, header_len, is_no_destination, is_not_ip, is_truncated, is_wrong_fragment,
+    total_len,
 };
 use crate::field::{quad_at, word_at};
 use crate::head::Head4;
 use crate::layout::{
-    DESTINATION_AT, DONT_FRAGMENT, FRAGMENT_AT, HEADER_LEN, ID_AT, MORE_FRAGMENTS, OFFSETS, PROTO_AT,
-    SOURCE_AT, TOS_AT, TTL_AT,
+    DESTINATION_AT, DONT_FRAGMENT, FRAGMENT_AT, HEADER_LEN, ID_AT, MORE_FRAGMENTS, OFFSETS,
+    PROTO_AT, SOURCE_AT, TOS_AT, TTL_AT,
 };
 use crate::options;
 use octets::{Addr4, Cause};

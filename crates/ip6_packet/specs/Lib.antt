@@ -1,1 +1,4 @@
+pub mod Causes
+pub mod Chain
+pub mod Grammar
 pub mod Written

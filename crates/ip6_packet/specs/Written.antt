@@ -47,3 +47,14 @@ IsUpper number = (number ≢ 0) × (number ≢ 43) × (number ≢ 44) × (number
 abbrev pub IsPlaced : ℕ → ℕ → Option Frag6 → Type 0
 IsPlaced start len None = start ≡ 40
 IsPlaced start len (Some frag) = (start ≡ 48) × (len ≤ 65527) × (frag.offset < 8192)
+
+-- the numbers fit their fields
+abbrev pub FitsFrag : Option Frag6 → Type 0
+FitsFrag None = Unit {0}
+FitsFrag (Some frag) = frag.id < 2 ^ 32
+
+pub record IsInRange (h : Head6) : Type 0 where
+  pub class : h.class < 256
+  pub length_fits : h.length < 65536
+  pub src : h.src.0 < 2 ^ 128
+  pub dst : h.dst.0 < 2 ^ 128

@@ -1,5 +1,7 @@
-ghost use Rattle.std.specs.Prelude.{◌≡◌, ◌<◌, ◌≤◌, length, IfOk, None};
-ghost use Rattle.ip6_packet.specs.Written.{written6, fixed_header, fragment_header, IsUpper, IsPlaced};
+ghost use Rattle.std.specs.Prelude.{◌≡◌, ◌^◌, ◌<◌, ◌≤◌, ◌++◌, length, IfOk, OnOk, None};
+ghost use Rattle.ip6_packet.specs.Written.{written6, fixed_header, fragment_header, fragment_part, IsUpper, IsPlaced, IsInRange, FitsFrag};
+ghost use Rattle.ip6_packet.specs.Grammar.{Is6};
+ghost use Rattle.ip6_packet.specs.Causes.{HasNoCause6, IsSound6};
 
 use crate::layout::{
     DESTINATION_AT, FRAGMENT, FRAGMENT_ID_AT, FRAGMENT_LEN, FRAGMENT_OFFSET_AT, HEADER_LEN, HOP_AT,
@@ -47,14 +49,16 @@ impl Frag6 {
     /// The octets of the Fragment Header in front of this upper protocol.
     fn header(&self, upper: u8) -> [u8; FRAGMENT_LEN]
         requires { self.now.offset < 8192 }
-        ensures { result ≡ fragment_header upper self.now }
+        ensures header { result ≡ fragment_header upper self.now }
+        ensures in_range { self.now.id < 2 ^ 32 }
     {
+        let id = self.id;
         let mut header = [0; FRAGMENT_LEN];
         header[0] = upper;
         let units = self.offset << 3;
         let field = if self.more { units + 1 } else { units };
         BigEndian::write_u16(&mut header[FRAGMENT_OFFSET_AT..], field);
-        BigEndian::write_u32(&mut header[FRAGMENT_ID_AT..], self.id);
+        BigEndian::write_u32(&mut header[FRAGMENT_ID_AT..], id);
         header
     }
 }
@@ -63,20 +67,41 @@ impl Head6 {
     /// The octets of the IPv6 header.
     fn header(&self) -> [u8; HEADER_LEN]
         requires { IsPlaced self.now.start self.now.length self.now.frag }
-        ensures { result ≡ fixed_header self.now }
+        ensures header { result ≡ fixed_header self.now }
+        ensures in_range { IsInRange self.now }
     {
+        let Head6 {
+            class,
+            hop,
+            src: Addr6(src),
+            dst: Addr6(dst),
+            length,
+            ..
+        } = *self;
         let (next, behind) = match self.frag {
-            None => (self.upper, self.length),
-            Some(_) => (FRAGMENT, self.length + FRAGMENT_LEN as u16),
+            None => (self.upper, length),
+            Some(_) => (FRAGMENT, length + FRAGMENT_LEN as u16),
         };
         let mut header = [0; HEADER_LEN];
-        BigEndian::write_u32(&mut header, 6 << 28 | u32::from(self.class) << 20);
+        BigEndian::write_u32(&mut header, 6 << 28 | u32::from(class) << 20);
         BigEndian::write_u16(&mut header[LENGTH_AT..], behind);
         header[NEXT_AT] = next;
-        header[HOP_AT] = self.hop;
-        BigEndian::write_u128(&mut header[SOURCE_AT..], self.src.0);
-        BigEndian::write_u128(&mut header[DESTINATION_AT..], self.dst.0);
+        header[HOP_AT] = hop;
+        BigEndian::write_u128(&mut header[SOURCE_AT..], src);
+        BigEndian::write_u128(&mut header[DESTINATION_AT..], dst);
         header
+    }
+
+    /// Adds the Fragment Header, where there is one.
+    fn put_fragment(&self, octets: &mut Bytes) -> Result<(), NoMemory>
+        requires { IsPlaced self.now.start self.now.length self.now.frag }
+        ensures written { OnOk result (octets.new ≡ octets.old ++ fragment_part self.now.upper self.now.frag) }
+        ensures in_range { OnOk result (FitsFrag self.now.frag) }
+    {
+        if let Some(frag) = self.frag {
+            octets.extend(&frag.header(self.upper))?;
+        }
+        Ok(())
     }
 
     /// The packet with these fields and this payload, in the one form that is written (RFC 8200,
@@ -88,13 +113,13 @@ impl Head6 {
         requires unrouted { self.now.left ≡ None }
         requires upper { IsUpper self.now.upper }
         requires placed { IsPlaced self.now.start self.now.length self.now.frag }
-        ensures { IfOk result (λ octets. octets ≡ written6 self.now payload.now) }
+        ensures written { IfOk result (λ octets. octets ≡ written6 self.now payload.now) }
+        // What is written is read again as the same fields and payload.
+        ensures again { IsSound6 self.now payload.now → IfOk result (λ octets. Is6 self.now payload.now octets × HasNoCause6 octets) }
     {
         let mut octets = Bytes::new(alloc);
         octets.extend(&self.header())?;
-        if let Some(frag) = self.frag {
-            octets.extend(&frag.header(self.upper))?;
-        }
+        self.put_fragment(&mut octets)?;
         octets.extend(payload)?;
         Ok(octets)
     }

@@ -2,7 +2,11 @@
 //! form in which a packet is written.
 #![tactic(auto)]
 
+mod chain;
+mod fault;
+mod field;
 mod head;
 mod layout;
+mod read;
 
 pub use head::{Frag6, Head6};

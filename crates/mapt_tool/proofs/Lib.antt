@@ -1,3 +1,5 @@
 pub mod Writes
 pub mod Pieces
 pub mod Datagram
+pub mod Steps
+pub mod Served

@@ -1,6 +1,6 @@
 -- The one home that is served: its rule and its prefix as numbers, what it holds under the rule, and what
 -- its packets become.
-use Rattle.std.specs.Prelude.{ℕ, ◌+◌, ◌-◌, ◌*◌, ◌/◌, ◌^◌, Bool, false, not, ◌&&◌, ◌||◌, ◌==◌, nat_le, if◌then◌else◌, List, [], ◌∷◌, ◌++◌, length, take, drop}
+use Rattle.std.specs.Prelude.{◌≡◌, ℕ, ◌≤◌, ◌+◌, ◌-◌, ◌*◌, ◌/◌, ◌^◌, Bool, false, not, ◌&&◌, ◌||◌, ◌==◌, nat_le, if◌then◌else◌, List, [], ◌∷◌, ◌++◌, length, take, drop}
 use Rattle.octets.specs.Field.{octet, word, quad, part, in_word, in_quad, in_sixteen}
 use Rattle.octets.specs.declared.proto.Proto.TheVariants.{Udp}
 use Rattle.octets.specs.declared.address.Addr4.{Addr4}
@@ -102,3 +102,11 @@ datagram_of packet =
 unfoldable pub outward : List ℕ → List ℕ
 outward packet =
     written6 (translated (head_of packet) home_address (far_address (quad packet 16))) (datagram_of packet)
+
+-- what is used of a served packet: how long it is, that its TTL lasts, and that it is UDP
+pub record Stands (packet : List ℕ) : Type 0 where
+  pub least : 28 ≤ length packet
+  pub most : length packet ≤ 1480
+  pub lasts : 3 ≤ octet packet 8
+  pub udp : octet packet 9 ≡ 17
+  pub total : word packet 2 ≡ length packet

@@ -1,6 +1,10 @@
 pub mod Carried
+pub mod Ends
 pub mod Home
+pub mod Limits
+pub mod Outcome
 pub mod Planned
+pub mod Planning
 pub mod Read
 pub mod Status
 pub mod Words

@@ -1,10 +1,12 @@
 -- The forms of words that the program serves, and how far given words follow them.
-use Rattle.std.specs.Prelude.{ℕ, suc, ◌+◌, Bool, true, false, not, ◌==◌, ◌&&◌, if◌then◌else◌, max, List, [], ◌∷◌, length, codes}
+use Rattle.std.specs.Prelude.{ℕ, suc, ◌+◌, Bool, true, false, not, ◌==◌, ◌&&◌, if◌then◌else◌, max, List, [], ◌∷◌, length, codes, Option, Some, None}
 use Rattle.std.specs.Str.{bytes_eq}
 use Rattle.mapt_tool.specs.declared.words.Verb.{Verb as VerbType}
 use Rattle.mapt_tool.specs.declared.words.Verb.TheVariants.{Replay}
 use Rattle.mapt_tool.specs.declared.words.Kind.{Kind}
 use Rattle.mapt_tool.specs.declared.words.Kind.TheVariants.{Verb, FileName, Text}
+use Rattle.mapt_tool.specs.declared.words.Command.{Command}
+use Rattle.mapt_tool.specs.declared.words.Command.TheVariants.{Replay as Replayed}
 use Rattle.mapt_tool.specs.declared.words.TheConstants.{REPLAY}
 
 -- how a form's first word is written
@@ -39,3 +41,17 @@ usage_of (form ∷ others) words = max (fitting form words) (usage_of others wor
 
 abbrev pub usage_number : List (List ℕ) → ℕ
 usage_number words = usage_of forms words
+
+-- a command, by its words
+pub data Request : Type 0 where
+  replay : List ℕ → List ℕ → Request
+
+-- the command that the words spell
+abbrev pub request_of : List (List ℕ) → Option Request
+request_of (verb ∷ config ∷ prefix ∷ []) =
+    if is_of REPLAY (verb ∷ config ∷ prefix ∷ []) then Some (replay config prefix) else None
+request_of words = None
+
+-- a command of the code, as it is spelled
+abbrev pub seen : Command → Request
+seen (Replayed config prefix) = replay config.now prefix.now

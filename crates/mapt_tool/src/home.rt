@@ -1,5 +1,5 @@
 ghost use Rattle.std.specs.Prelude.{◌≡◌, IsTrue, IfOk, length, drop, ◌≤◌, ◌+◌, ◌^◌};
-ghost use Rattle.mapt_tool.specs.Home.{home_address, far_address, outside_port, is_sized, has_plain_lengths, is_whole_udp, has_sums, is_plain_udp, is_served_destination, is_served, head_of, address_sum, sum_before, sum_after, sum_of, datagram_of, outward};
+ghost use Rattle.mapt_tool.specs.Home.{home_address, far_address, outside_port, is_sized, has_plain_lengths, is_whole_udp, has_sums, is_plain_udp, is_served_destination, is_served, head_of, address_sum, sum_before, sum_after, sum_of, datagram_of, outward, Stands};
 ghost use Rattle.octets.specs.Field.{octet, word, quad};
 ghost use Rattle.inet_sum.specs.Sum.{as_udp};
 
@@ -103,11 +103,7 @@ fn goes_far(packet: &[u8]) -> bool
 /// Whether the packet is one of those that are served.
 pub fn is_served(packet: &[u8]) -> bool
     ensures value { result ≡ is_served packet.now }
-    ensures least { IsTrue result → 28 ≤ length packet.now }
-    ensures most { IsTrue result → length packet.now ≤ 1480 }
-    ensures lasts { IsTrue result → 3 ≤ octet packet.now 8 }
-    ensures udp { IsTrue result → octet packet.now 9 ≡ 17 }
-    ensures total { IsTrue result → word packet.now 2 ≡ length packet.now }
+    ensures stands { IsTrue result → Stands packet.now }
 {
     is_plain_udp(packet) && goes_far(packet)
 }
@@ -238,11 +234,9 @@ fn datagram_of(alloc: Global, packet: &[u8]) -> Result<Vec<u8>, NoMemory>
 /// The packet on the access network: its header translated, its source port and sum replaced.
 #[tactic(auto, unfolding(crate::specs::Home::outward))]
 pub fn outward(alloc: Global, packet: &[u8]) -> Result<Bytes, NoMemory>
-    requires least { 28 ≤ length packet.now }
-    requires lasts { 3 ≤ octet packet.now 8 }
-    requires udp { octet packet.now 9 ≡ 17 }
-    requires total { word packet.now 2 ≡ length packet.now }
-    ensures { IfOk result (λ octets. octets ≡ outward packet.now) }
+    requires { Stands packet.now }
+    ensures value { IfOk result (λ octets. octets ≡ outward packet.now) }
+    ensures size { IfOk result (λ octets. length octets ≤ 1500) }
 {
     let head = head_of(packet);
     let far = far_address(head.dst);

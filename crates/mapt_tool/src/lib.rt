@@ -2,10 +2,14 @@
 #![tactic(auto)]
 
 mod carrying;
+mod config;
 mod home;
 mod plan;
 mod reading;
+mod replay;
 mod status;
+mod tool;
 mod words;
 
 pub use status::Status;
+pub use tool::mapt_plain;

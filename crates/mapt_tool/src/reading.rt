@@ -1,4 +1,6 @@
-ghost use Rattle.std.specs.Prelude.{◌≡◌, ◌≤◌, ◌<◌, ◌+◌, ◌^◌, length, IfOk, IfErr, OnOk};
+ghost use Rattle.std.specs.Prelude.{◌≡◌, ◌≤◌, ◌<◌, ◌+◌, ◌^◌, length, IfOk, IfErr, OnOk, Ok};
+ghost use Rattle.mapt_tool.specs.Planning.{Tells, Stops};
+ghost use Rattle.mapt_tool.specs.Outcome.{text_of};
 ghost use Rattle.mapt_tool.specs.Read.{HoldsFrom, IsWhole, PieceFails, ReadFails};
 ghost use Rattle.octets.specs.Count.{counted};
 
@@ -84,5 +86,26 @@ pub fn read_whole<F: Folder>(
         if read_piece(alloc, folder, file, name, &mut bytes, &mut piece[..asked])? == 0 {
             return Ok(bytes);
         }
+    }
+}
+
+/// Reads a file of the command, of at most 64 MiB.
+pub fn read_text<F: Folder>(
+    alloc: Global,
+    folder: &mut F,
+    file: FileId,
+    name: &str,
+) -> Result<Bytes, Status>
+    ensures ok { IfOk result (λ text. Tells (F.files folder.old) (λ m. text_of m file name.now) (Ok text)) }
+    ensures ok_faults { OnOk result (F.faults folder.new ≡ F.faults folder.old) }
+    ensures short { IfOk result (λ text. length text ≤ FILE_LIMIT) }
+    ensures files { F.files folder.new ≡ F.files folder.old }
+    ensures handed_rises { F.handed folder.old ≤ F.handed folder.new }
+    ensures faults_rise { F.faults folder.old ≤ F.faults folder.new }
+    ensures err { IfErr result (Stops F.files F.faults F.last F.handed folder.old folder.new (λ m. text_of m file name.now)) }
+{
+    match read_whole(alloc, folder, file, name, FILE_LIMIT) {
+        Ok(text) => Ok(text),
+        Err(status) => Err(status),
     }
 }

@@ -4,6 +4,7 @@ ghost use Rattle.mapt_tool.specs.declared.status.Status.TheVariants.{NoMemory as
 
 use octets::NoMemory;
 use outside::FileId;
+use pcap_files::CaptureFault;
 
 /// How a command ended.
 #[derive(Clone, Copy, Debug, PartialEq, Eq)]
@@ -16,6 +17,8 @@ pub enum Status {
     ReadFault(FileId),
     /// A write of this file failed.
     WriteFault(FileId),
+    /// This capture has this fault.
+    CaptureRefused(FileId, CaptureFault),
     /// This file is over 64 MiB, or the files up to it are together over 128 MiB.
     TooLong(FileId),
     /// Memory ran out.
@@ -34,6 +37,7 @@ impl Status {
             Status::Usage(_) => 2,
             Status::ReadFault(_) => 3,
             Status::WriteFault(_) => 4,
+            Status::CaptureRefused(_, _) => 6,
             Status::TooLong(_) => 7,
             Status::NoMemory => 9,
             Status::NotBuilt(_) => 11,

@@ -1,6 +1,6 @@
-ghost use Rattle.std.specs.Prelude.{◌≡◌, ℕ, length, map, ◌≤◌};
+ghost use Rattle.std.specs.Prelude.{◌≡◌, ℕ, length, map, ◌≤◌, IfOk, IfErr, OnErr, Some, None};
 ghost use Rattle.std.specs.String.{string_bytes};
-ghost use Rattle.mapt_tool.specs.Words.{keyword_of, fits, fitting, usage_number};
+ghost use Rattle.mapt_tool.specs.Words.{keyword_of, fits, fitting, usage_number, request_of, seen};
 
 /// The first word of a form.
 #[derive(Clone, Copy, Debug, PartialEq, Eq)]
@@ -65,9 +65,33 @@ pub fn fitting(form: &[Kind], words: &[String]) -> u32
     }
 }
 
+/// A command.
+#[derive(Clone, Copy, Debug)]
+pub enum Command<'a> {
+    /// Replays a configuration, and writes files whose names begin with the prefix.
+    Replay { config: &'a str, prefix: &'a str },
+}
+
 /// The number of Usage: how many words from the first on begin a form.
 pub fn usage(words: &[String]) -> u32
     ensures { result ≡ usage_number (map string_bytes words.now) }
 {
     fitting(&REPLAY, words)
+}
+
+/// The command that the words spell, or the number of Usage.
+pub fn command_of(words: &[String]) -> Result<Command<'_>, u32>
+    ensures command { IfOk result (λ command. request_of (map string_bytes words.now) ≡ Some (seen command)) }
+    ensures none { OnErr result (request_of (map string_bytes words.now) ≡ None) }
+    ensures number { IfErr result (λ number. number ≡ usage_number (map string_bytes words.now)) }
+{
+    if let [_verb, config, prefix] = words {
+        if fitting(&REPLAY, words) == 3 {
+            return Ok(Command::Replay {
+                config: config.as_str(),
+                prefix: prefix.as_str(),
+            });
+        }
+    }
+    Err(usage(words))
 }

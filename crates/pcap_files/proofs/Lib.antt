@@ -1,2 +1,11 @@
-pub mod Loop
+pub mod Answered
 pub mod Appended
+pub mod Captures
+pub mod Entries
+pub mod Followed
+pub mod Frames
+pub mod Header
+pub mod Loop
+pub mod Numbers
+pub mod Runs
+pub mod Written

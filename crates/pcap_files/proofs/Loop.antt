@@ -1,5 +1,5 @@
 -- Reading records one after the other, as a loop does.
-use Rattle.std.proofs.Common.{◌≡◌, ℕ, zero, suc, ◌-◌, ◌+◌, ◌≤◌, ◌<◌, eqb, true, false, List, [], ◌∷◌, ◌++◌, length, take, drop, Option, Some, None, Result, Ok, Err, refl, sym, ap, ◌∙◌, append_assoc, arith}
+use Rattle.std.proofs.Common.{◌≡◌, ℕ, zero, suc, ◌-◌, ◌+◌, ◌≤◌, ◌<◌, eqb, true, false, List, [], ◌∷◌, ◌++◌, length, take, drop, Some, None, Result, Ok, Err, refl, sym, ap, ◌∙◌, append_assoc, arith}
 use Rattle.std.proofs.lemmas.List.{append-nil}
 use Rattle.pcap_files.specs.declared.form.Form.{Form}
 use Rattle.pcap_files.specs.declared.records.Record.{Record}
@@ -16,7 +16,7 @@ regroup front r (Ok rest) = ap (λ (rs : List Record). Ok rs) (simp append_assoc
 regroup front r (Err e) = refl
 
 -- where nothing is left the records so far are all
-records_at-end : (form : Form) (i left : ℕ) (octets : List ℕ) → eqb (length octets) 0 ≡ true → records_at form i left octets ≡ Ok []
+pub records_at-end : (form : Form) (i left : ℕ) (octets : List ℕ) → eqb (length octets) 0 ≡ true → records_at form i left octets ≡ Ok []
 unfolding records_at
 records_at-end form i zero octets h = rw h refl
 records_at-end form i (suc left) octets h = rw h refl

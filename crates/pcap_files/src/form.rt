@@ -11,14 +11,20 @@ pub const HEADER_LEN: usize = 24;
 /// The places of the fields of a file header. The time zone, the accuracy and the greatest length
 /// aren't looked at.
 const MAGIC: usize = 0;
+
 const MAJOR: usize = 4;
+
 const MINOR: usize = 6;
+
 const LINK: usize = 20;
 
 /// The magic numbers, as they read with the highest octet first.
 const MICRO_BIG: u32 = 0xa1b2_c3d4;
+
 const MICRO_LITTLE: u32 = 0xd4c3_b2a1;
+
 const NANO_BIG: u32 = 0xa1b2_3c4d;
+
 const NANO_LITTLE: u32 = 0x4d3c_b2a1;
 
 /// Version 2.4, the major version times 65536 plus the minor one.
@@ -26,6 +32,7 @@ const VERSION: u32 = 0x0002_0004;
 
 /// The link types that are read.
 const ETHERNET: u32 = 1;
+
 const RAW_IP: u32 = 101;
 
 /// The order in which a file's numbers are spelled.

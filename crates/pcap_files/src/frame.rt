@@ -6,15 +6,19 @@ use byteorder::{BigEndian, ByteOrder};
 
 /// The place of the type in an Ethernet frame, and of that behind a tag.
 const TYPE: usize = 12;
+
 const TAGGED_TYPE: usize = 16;
 
 /// The octets before the packet of an Ethernet frame, without a tag and with one.
 const PLAIN_LEN: usize = 14;
+
 const TAGGED_LEN: usize = 18;
 
 /// The types of IPv4, IPv6 and an IEEE 802.1Q tag.
 const IPV4: u16 = 0x0800;
+
 const IPV6: u16 = 0x86dd;
+
 const TAG: u16 = 0x8100;
 
 /// Whether the type of IPv4 or IPv6 stands at the place.

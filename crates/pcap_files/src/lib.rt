@@ -4,11 +4,16 @@
 mod fault;
 mod form;
 mod frame;
+mod laws;
 mod reader;
 mod records;
 mod writer;
 
 pub use fault::CaptureFault;
+pub use laws::{followers_change_nothing, reading_is_by_the_grammar, written_is_read};
 pub use reader::read;
 pub use records::{Record, Records};
 pub use writer::Writer;
+
+#[cfg(test)]
+mod tests;

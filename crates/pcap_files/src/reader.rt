@@ -1,4 +1,8 @@
-ghost use Rattle.std.specs.Prelude.{◌≡◌, ◌≤◌, length, IfOk, IfSome};
+ghost use Rattle.std.specs.Prelude.{◌≡◌, ◌≤◌, ◌⊎◌, List, All, length, IfOk, IfErr, IfSome};
+ghost use Rattle.pcap_files.specs.declared.fault.CaptureFault.TheVariants.{NoMemory as OutOfMemory};
+ghost use Rattle.pcap_files.specs.declared.records.Record.{Record as RecordType};
+ghost use Rattle.pcap_files.specs.Grammar.{IsCapture, HasFault};
+ghost use Rattle.pcap_files.specs.Written.{IsWritable};
 ghost use Rattle.pcap_files.specs.Capture.{Gives, entry_len, record_of, records_at, capture};
 
 use crate::form::{Form, HEADER_LEN};
@@ -9,7 +13,9 @@ use std::alloc::Global;
 
 /// The places of the fields before a record's captured octets. The original length isn't looked at.
 const SECONDS: usize = 0;
+
 const FRACTION: usize = 4;
+
 const CAPTURED: usize = 8;
 
 /// The octets before a record's captured ones.
@@ -76,15 +82,35 @@ fn records_in(
     Ok(records)
 }
 
-/// Reads a capture in the classic pcap format (draft-ietf-opsawg-pcap), of which at most `room` records
-/// are taken: in either byte order, with microseconds or nanoseconds, of raw IP packets or of Ethernet
-/// frames with one IEEE 802.1Q tag or none.
+/// The records of a capture, by the reading of its octets from left to right.
 #[tactic(auto, unfolding(crate::specs::Capture::capture))]
-pub fn read(alloc: Global, octets: &[u8], room: u32) -> Result<Records, CaptureFault>
+fn records_of(alloc: Global, octets: &[u8], room: u32) -> Result<Records, CaptureFault>
     ensures { Gives (λ r. r) result (capture room octets.now) }
 {
     let form = Form::read(octets)?;
     let (_header, entries) = octets.split_at(HEADER_LEN);
     let records = records_in(alloc, form, entries, room)?;
     Ok(Records::of(records))
+}
+
+/// Reads a capture in the classic pcap format (draft-ietf-opsawg-pcap), with room for so many records:
+/// in either byte order, with microseconds or nanoseconds, of raw IP packets or of Ethernet frames with
+/// an IEEE 802.1Q tag or without. A nanosecond is dropped where it is no whole microsecond.
+pub fn read(alloc: Global, octets: &[u8], room: u32) -> Result<Records, CaptureFault>
+    // What is read is a capture of these records.
+    ensures found { IfOk result (λ records. IsCapture room octets.now records) }
+    // A capture is read, unless memory runs out.
+    ensures only { (records : List RecordType) → IsCapture room octets.now records → Gives (λ r. r) result (Ok records) }
+
+    // A fault is the first one from the left, unless memory runs out.
+    ensures first_fault { IfErr result (λ fault. (fault ≡ OutOfMemory) ⊎ HasFault room octets.now fault) }
+    // And each first fault is answered.
+    ensures refused { (fault : CaptureFault) → HasFault room octets.now fault → Gives (λ r. r) result (Err fault) }
+
+    // Both in one: what reading from left to right gives.
+    ensures exact { Gives (λ r. r) result (capture room octets.now) }
+    // Each record can be written again.
+    ensures writable { IfOk result (All IsWritable) }
+{
+    records_of(alloc, octets, room)
 }

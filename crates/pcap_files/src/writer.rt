@@ -55,7 +55,6 @@ impl Writer {
         })
     }
 
-    #[tactic(auto, unfolding(crate::specs::Written::entry))]
     /// Adds a record of this packet at the end. The time is in microseconds.
     pub fn add(&mut self, time: u64, packet: &[u8]) -> Result<(), NoMemory>
         requires time { IsWritableTime time }

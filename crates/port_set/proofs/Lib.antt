@@ -1,1 +1,5 @@
 mod Trials
+pub mod Counting
+pub mod Runs
+pub mod Places
+pub mod Ranks

@@ -1,6 +1,6 @@
 -- The definitions, computed on one home's set: offset 6, PSID length 8, PSID 52.
-use Rattle.std.proofs.Common.{◌≡◌, ℕ, Bool, true, false, refl}
-use Rattle.std.specs.Prelude.{Some, Option}
+use Rattle.std.proofs.Common.{◌≡◌, true, false, refl}
+use Rattle.std.specs.Prelude.{Some}
 use Rattle.port_set.specs.PortSet.{in_set, is_claimable, count_below, rank_of, begins_run, ends_run}
 
 port-1231 : in_set 6 8 52 1231 ≡ false

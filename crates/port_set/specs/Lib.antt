@@ -1,1 +1,2 @@
 pub mod PortSet
+pub mod Layout

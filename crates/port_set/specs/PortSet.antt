@@ -1,6 +1,6 @@
 -- The port set of a customer edge (RFC 7597, section 5.1). Ports are the numbers below 65536. A port
 -- has `a` offset bits, then `k` PSID bits, then the rest.
-use Rattle.std.specs.Prelude.{◌≡◌, ℕ, ◌+◌, ◌-◌, ◌/◌, ◌%◌, ◌^◌, ◌<◌, ◌≤◌, ◌==◌, nat_le, Bool, not, ◌&&◌, ◌||◌, if◌then◌else◌, IsTrue, Option, Some, None, zero, suc}
+use Rattle.std.specs.Prelude.{ℕ, ◌+◌, ◌-◌, ◌/◌, ◌%◌, ◌^◌, ◌≤◌, ◌==◌, nat_le, Bool, not, ◌&&◌, ◌||◌, if◌then◌else◌, IsTrue, Option, Some, None, zero, suc}
 
 -- port x is in the set of PSID v: with no PSID bits each port is; else its PSID bits are v, and its
 -- offset bits aren't all zero unless there are none

@@ -1,7 +1,7 @@
-use Rattle.std.proofs.Common.{arith, sym, inl, inr}
+use Rattle.std.proofs.Common.{sym, inl, inr}
 use Rattle.std.proofs.lemmas.Bool.{eqb-true}
 use Rattle.ip4_packet.specs.Options.{routed_in}
-use Rattle.ip4_packet.proofs.OptionLemmas.{goes_on, is_done, one_more}
+use Rattle.ip4_packet.proofs.OptionLemmas.{goes_on, is_done}
 use Rattle.ip4_packet.proofs.options.routed.Goals as goal
 
 pub loop-left-preserved-then-left-eq-OPTION_NONE : goal.loop-left-preserved-then-left-eq-OPTION_NONE

@@ -1,7 +1,5 @@
-use Rattle.std.proofs.Common.{◌≡◌, sym, subst, rules, arith}
+use Rattle.std.proofs.Common.{◌≡◌, rules}
 use Rattle.ip4_packet.specs.Written.{written4}
-use Rattle.ip4_packet.specs.Grammar.{Is4}
-use Rattle.ip4_packet.specs.Causes.{HasNoCause4}
 use Rattle.ip4_packet.proofs.WrittenLemmas.{written_again}
 use Rattle.ip4_packet.proofs.head.Head4.write.Goals as goal
 

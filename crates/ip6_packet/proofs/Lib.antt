@@ -1,0 +1,4 @@
+pub mod CauseLemmas
+pub mod ChainLemmas
+pub mod PartLemmas
+pub mod WrittenLemmas

@@ -1,0 +1,11 @@
+use Rattle.std.proofs.Common.{◌≡◌, rules}
+use Rattle.ip6_packet.specs.Written.{written6}
+use Rattle.ip6_packet.proofs.WrittenLemmas.{written_again}
+use Rattle.ip6_packet.proofs.head.Head6.write.Goals as goal
+
+pub returns-clause-again : goal.returns-clause-again
+returns-clause-again c = λ is_sound.
+    let h = c.args.self.now in
+    let payload = c.args.payload.now in
+    let e : c.extend-2.new.self ≡ written6 h payload = search rules in
+    rw e (written_again h payload c.header.ensures.in_range c.in_ok-put_fragment.ensures.in_range c.requires.unrouted c.requires.upper c.requires.placed is_sound)

@@ -1,0 +1,30 @@
+//! Numbers of several octets at their place.
+
+ghost use Rattle.std.specs.Prelude.{◌≡◌, ◌+◌, ◌≤◌, length};
+ghost use Rattle.octets.specs.Field.{word, quad, sixteen};
+
+use byteorder::{BigEndian, ByteOrder};
+
+/// The number of 16 bits at this place.
+pub fn word_at(octets: &[u8], at: usize) -> u16
+    requires { at + 2 ≤ length octets.now }
+    ensures { result ≡ word octets.now at }
+{
+    BigEndian::read_u16(&octets[at..])
+}
+
+/// The number of 32 bits at this place.
+pub fn quad_at(octets: &[u8], at: usize) -> u32
+    requires { at + 4 ≤ length octets.now }
+    ensures { result ≡ quad octets.now at }
+{
+    BigEndian::read_u32(&octets[at..])
+}
+
+/// The number of 128 bits at this place.
+pub fn sixteen_at(octets: &[u8], at: usize) -> u128
+    requires { at + 16 ≤ length octets.now }
+    ensures { result ≡ sixteen octets.now at }
+{
+    BigEndian::read_u128(&octets[at..])
+}

@@ -1,0 +1,44 @@
+-- What is told of the outcome of a step or of a command, as a function of the files: all, where the folder
+-- tells its files, and nothing else.
+use Rattle.std.specs.Prelude.{◌≡◌, ℕ, ◌+◌, Option, None, Some, Result, Ok, Err, ⊤}
+use Rattle.octets.specs.Count.{RoseBy}
+use Rattle.outside.specs.Files.{Files}
+use Rattle.outside.specs.declared.file_id.Failure.{Failure}
+use Rattle.mapt_tool.specs.declared.status.Status.{Status}
+use Rattle.mapt_tool.specs.declared.status.Status.TheVariants.{Done, Usage, ReadFault, WriteFault, CaptureRefused, TooLong, NoMemory, NotBuilt}
+use Rattle.mapt_tool.specs.Limits.{file_limit}
+use Rattle.mapt_tool.specs.Read.{FailedRead}
+
+-- the outcome is this, where the folder tells its files
+abbrev pub Tells : {A : Type 0} → Option Files → (Files → Result A Status) → Result A Status → Type 0
+Tells None outcome answer = ⊤
+Tells (Some files) outcome answer = outcome files ≡ answer
+
+-- a refusal, which no failure of the outside made
+pub record IsRefused {F A : Type 0} (files : F → Option Files) (faults : F → ℕ) (old new : F) (outcome : Files → Result A Status) (status : Status) : Type 0 where
+  pub told : Tells (files old) outcome (Err status)
+  pub unfailed : faults new ≡ faults old
+
+-- why a step that reads ended before, by its status
+abbrev pub Stops : {F A : Type 0} → (F → Option Files) → (F → ℕ) → (F → Option Failure) → (F → ℕ) → F → F → (Files → Result A Status) → Status → Type 0
+Stops files faults last handed old new outcome (ReadFault file) = FailedRead faults last old new file
+Stops files faults last handed old new outcome (TooLong file) =
+    IsRefused files faults old new outcome (TooLong file) × RoseBy (file_limit + 1) (handed old) (handed new)
+Stops files faults last handed old new outcome (CaptureRefused file fault) = IsRefused files faults old new outcome (CaptureRefused file fault)
+Stops files faults last handed old new outcome (NotBuilt file) = IsRefused files faults old new outcome (NotBuilt file)
+Stops files faults last handed old new outcome NoMemory = faults new ≡ faults old
+Stops files faults last handed old new outcome Done = ⊥
+Stops files faults last handed old new outcome (Usage i) = ⊥
+Stops files faults last handed old new outcome (WriteFault file) = ⊥
+
+-- what a step that reads nothing answers, unless memory ran out
+abbrev pub Answers : {A B : Type 0} → (A → B) → Result A Status → Result B Status → Type 0
+Answers view (Ok x) outcome = outcome ≡ Ok (view x)
+Answers view (Err NoMemory) outcome = Unit {0}
+Answers view (Err (ReadFault file)) outcome = ⊥
+Answers view (Err (TooLong file)) outcome = ⊥
+Answers view (Err (CaptureRefused file fault)) outcome = outcome ≡ Err (CaptureRefused file fault)
+Answers view (Err (NotBuilt file)) outcome = outcome ≡ Err (NotBuilt file)
+Answers view (Err Done) outcome = ⊥
+Answers view (Err (Usage i)) outcome = ⊥
+Answers view (Err (WriteFault file)) outcome = ⊥

@@ -1,0 +1,212 @@
+ghost use Rattle.std.specs.Prelude.{◌≡◌, length, IsTrue, IfOk, IfErr, OnOk, All, map, ◌++◌, ◌∷◌, [], ◌≤◌, Ok};
+ghost use Rattle.std.specs.List.{list_all};
+ghost use Rattle.pcap_files.specs.Written.{written, IsWritable};
+ghost use Rattle.mapt_tool.specs.Home.{is_served, Stands};
+ghost use Rattle.mapt_tool.specs.Planning.{Tells, Stops, Answers};
+ghost use Rattle.mapt_tool.specs.Outcome.{times_from, same_source, have_one_source, are_served, outward_record, access_file, home_only, lan_records, planned_of, with_lan, replayed};
+
+use crate::config::{ACCESS_SUFFIX, HOME_CONFIG, HOME_LAN};
+use crate::home::{is_served, outward};
+use crate::plan::{FileWrite, Plan};
+use crate::reading::{FILE_LIMIT, read_text};
+use crate::status::Status;
+use byteorder::{BigEndian, ByteOrder};
+use octets::{Bytes, Name, NoMemory};
+use outside::{FileId, Folder};
+use pcap_files::{CaptureFault, Record, Records, Writer};
+use std::alloc::Global;
+
+/// The records of all captures of a command.
+const RECORD_LIMIT: u32 = 200_000;
+
+/// Whether no record's time is less than the one before.
+fn times_rise(records: &[Record]) -> bool
+    ensures { result ≡ times_from 0 records.now }
+{
+    let mut last = 0;
+    for record in records {
+        if record.time < last {
+            return false;
+        }
+        last = record.time;
+    }
+    true
+}
+
+/// Whether both packets come from one address and port.
+fn same_source(packet: &[u8], other: &[u8]) -> bool
+    requires packet { Stands packet.now }
+    requires other { Stands other.now }
+    ensures { result ≡ same_source packet.now other.now }
+{
+    let addresses = BigEndian::read_u32(&packet[12..]) == BigEndian::read_u32(&other[12..]);
+    let ports = BigEndian::read_u16(&packet[20..]) == BigEndian::read_u16(&other[20..]);
+    addresses && ports
+}
+
+/// Whether each packet is served.
+fn all_served(records: &[Record]) -> bool
+    ensures { result ≡ list_all (λ r. is_served r.bytes) records.now }
+{
+    for record in records {
+        if !is_served(record.bytes.as_slice()) {
+            return false;
+        }
+    }
+    true
+}
+
+/// Whether all packets come from the source of the first.
+fn have_one_source(records: &[Record]) -> bool
+    requires { All (λ r. Stands r.bytes) records.now }
+    ensures { result ≡ have_one_source records.now }
+{
+    let [first, others @ ..] = records else {
+        return true;
+    };
+    for other in others {
+        if !same_source(first.bytes.as_slice(), other.bytes.as_slice()) {
+            return false;
+        }
+    }
+    true
+}
+
+/// Whether the records are those of one host, as they are replayed.
+fn are_served(records: &[Record]) -> bool
+    ensures value { result ≡ are_served records.now }
+    ensures stand { IsTrue result → All (λ r. Stands r.bytes) records.now }
+{
+    if !all_served(records) {
+        return false;
+    }
+    times_rise(records) && have_one_source(records)
+}
+
+/// The records of the LAN capture, where they are replayed.
+#[tactic(auto, unfolding(crate::specs::Outcome::served_only, crate::specs::Outcome::lan_records))]
+fn served_records(alloc: Global, octets: &[u8]) -> Result<Records, Status>
+    requires { length octets.now ≤ FILE_LIMIT }
+    ensures records { Answers (λ r. r) result (lan_records octets.now) }
+    ensures stand { IfOk result (All (λ r. Stands r.bytes)) }
+    ensures writable { IfOk result (All IsWritable) }
+{
+    let records = match pcap_files::read(alloc, octets, RECORD_LIMIT) {
+        Ok(records) => records,
+        Err(CaptureFault::NoMemory) => return Err(Status::NoMemory),
+        Err(fault) => return Err(Status::CaptureRefused(FileId::InLan(0), fault)),
+    };
+    if !are_served(records.as_slice()) {
+        return Err(Status::NotBuilt(FileId::InLan(0)));
+    }
+    Ok(records)
+}
+
+/// The capture of the access network: each packet as it is there, with its record's time.
+fn access_capture(alloc: Global, records: &[Record]) -> Result<Writer, NoMemory>
+    requires stand { All (λ r. Stands r.bytes) records.now }
+    requires writable { All IsWritable records.now }
+    ensures { IfOk result (λ w. w ≡ written (map outward_record records.now)) }
+{
+    let mut writer = Writer::new(alloc)?;
+    for record in records {
+        let packet = outward(alloc, record.bytes.as_slice())?;
+        writer.add(record.time, packet.as_slice())?;
+    }
+    Ok(writer)
+}
+
+/// A name that begins with the prefix.
+fn name_of(alloc: Global, prefix: &str, suffix: &str) -> Result<Name, NoMemory>
+    ensures { IfOk result (λ name. name ≡ prefix.now ++ suffix.now) }
+{
+    let mut name = String::from_str(alloc, prefix)?;
+    name.push_str(suffix)?;
+    Name::of(alloc, name.as_str())
+}
+
+/// The capture of the access network as a file.
+fn access_file(alloc: Global, prefix: &str, records: &[Record]) -> Result<FileWrite, NoMemory>
+    requires stand { All (λ r. Stands r.bytes) records.now }
+    requires writable { All IsWritable records.now }
+    ensures { IfOk result (λ file. file ≡ access_file prefix.now records.now) }
+{
+    let mut bytes = Bytes::new(alloc);
+    bytes.extend(access_capture(alloc, records)?.as_slice())?;
+    Ok(FileWrite {
+        file: FileId::OutAccess,
+        name: name_of(alloc, prefix, ACCESS_SUFFIX)?,
+        bytes,
+    })
+}
+
+/// What a replay writes, by its LAN capture.
+#[tactic(auto, unfolding(crate::specs::Outcome::planned_of))]
+fn planned_of(alloc: Global, prefix: &str, octets: &[u8]) -> Result<Plan, Status>
+    requires { length octets.now ≤ FILE_LIMIT }
+    ensures { Answers (λ plan. plan) result (planned_of prefix.now octets.now) }
+{
+    let records = served_records(alloc, octets)?;
+    let mut plan = Plan::new(alloc);
+    plan.write(access_file(alloc, prefix, records.as_slice())?)?;
+    Ok(plan)
+}
+
+/// Whether the text is the one configuration that is replayed.
+#[tactic(auto, unfolding(crate::specs::Outcome::home_only))]
+fn home_only(text: &[u8]) -> Result<(), Status>
+    ensures { Answers (λ _. text.now) result (home_only text.now) }
+{
+    if text == HOME_CONFIG {
+        Ok(())
+    } else {
+        Err(Status::NotBuilt(FileId::Config))
+    }
+}
+
+/// Reads the LAN capture, and plans what is written.
+fn with_lan<F: Folder>(alloc: Global, folder: &mut F, prefix: &str) -> Result<Plan, Status>
+    ensures ok { IfOk result (λ plan. Tells (F.files folder.old) (with_lan prefix.now) (Ok plan)) }
+    ensures ok_faults { OnOk result (F.faults folder.new ≡ F.faults folder.old) }
+    ensures files { F.files folder.new ≡ F.files folder.old }
+    ensures handed_rises { F.handed folder.old ≤ F.handed folder.new }
+    ensures faults_rise { F.faults folder.old ≤ F.faults folder.new }
+    ensures err { IfErr result (Stops F.files F.faults F.last F.handed folder.old folder.new (with_lan prefix.now)) }
+{
+    let octets = match read_text(alloc, folder, FileId::InLan(0), HOME_LAN) {
+        Ok(octets) => octets,
+        Err(status) => return Err(status),
+    };
+    match planned_of(alloc, prefix, octets.as_slice()) {
+        Ok(plan) => Ok(plan),
+        Err(status) => Err(status),
+    }
+}
+
+/// Replays a configuration: reads it and its LAN capture, and plans what is written.
+pub fn replay<F: Folder>(
+    alloc: Global,
+    folder: &mut F,
+    config: &str,
+    prefix: &str,
+) -> Result<Plan, Status>
+    ensures ok { IfOk result (λ plan. Tells (F.files folder.old) (replayed config.now prefix.now) (Ok plan)) }
+    ensures ok_faults { OnOk result (F.faults folder.new ≡ F.faults folder.old) }
+    ensures files { F.files folder.new ≡ F.files folder.old }
+    ensures handed_rises { F.handed folder.old ≤ F.handed folder.new }
+    ensures faults_rise { F.faults folder.old ≤ F.faults folder.new }
+    ensures err { IfErr result (Stops F.files F.faults F.last F.handed folder.old folder.new (replayed config.now prefix.now)) }
+{
+    let text = match read_text(alloc, folder, FileId::Config, config) {
+        Ok(text) => text,
+        Err(status) => return Err(status),
+    };
+    match home_only(text.as_slice()) {
+        Ok(()) => {}
+        Err(status) => return Err(status),
+    }
+    match with_lan(alloc, folder, prefix) {
+        Ok(plan) => Ok(plan),
+        Err(status) => Err(status),
+    }
+}
