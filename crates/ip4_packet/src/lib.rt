@@ -10,3 +10,6 @@ mod options;
 mod read;
 
 pub use head::Head4;
+
+#[cfg(test)]
+mod tests;

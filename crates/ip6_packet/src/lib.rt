@@ -10,3 +10,6 @@ mod layout;
 mod read;
 
 pub use head::{Frag6, Head6};
+
+#[cfg(test)]
+mod tests;

@@ -1,1 +1,5 @@
 mod Trials
+pub mod Parts
+pub mod Embedded
+pub mod MapAddress
+pub mod Rules

@@ -1,5 +1,5 @@
 -- The definitions, computed on published and worked numbers.
-use Rattle.std.proofs.Common.{◌≡◌, ℕ, refl}
+use Rattle.std.proofs.Common.{◌≡◌, refl}
 use Rattle.map_rules.specs.Embedding.{embedded}
 use Rattle.map_rules.specs.Address.{map_address}
 

@@ -1,6 +1,6 @@
 -- IPv4 addresses embedded in IPv6 addresses (RFC 6052, section 2.2), under a prefix of 32, 40, 48, 56,
 -- 64 or 96 bits. Bits are counted from the left, from 0.
-use Rattle.std.specs.Prelude.{◌≡◌, ℕ, ◌+◌, ◌-◌, ◌*◌, ◌/◌, ◌%◌, ◌^◌, ◌<◌, ◌==◌, ◌||◌, ◌&&◌, Bool, IsTrue, if◌then◌else◌}
+use Rattle.std.specs.Prelude.{ℕ, ◌+◌, ◌-◌, ◌*◌, ◌^◌, ◌==◌, ◌||◌, ◌&&◌, Bool, if◌then◌else◌}
 use Rattle.octets.specs.Bits.{bits_at}
 
 -- the prefix is of an embedding's length, and with 96 bits its bits 64 to 71 are zero

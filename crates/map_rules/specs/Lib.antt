@@ -1,3 +1,4 @@
 pub mod Embedding
 pub mod Address
 pub mod Shape
+pub mod Rule

@@ -12,4 +12,4 @@ mod tool;
 mod words;
 
 pub use status::Status;
-pub use tool::mapt_plain;
+pub use tool::{mapt, mapt_plain};

@@ -5,25 +5,34 @@ ghost use Rattle.mapt_tool.specs.declared.status.Status.TheVariants.{NoMemory as
 use octets::NoMemory;
 use outside::FileId;
 use pcap_files::CaptureFault;
+use thiserror::Error;
 
-/// How a command ended.
-#[derive(Clone, Copy, Debug, PartialEq, Eq)]
+/// How a command ended. Its text is the line that the program prints behind its name.
+#[derive(Clone, Copy, Debug, PartialEq, Eq, Error)]
 pub enum Status {
     /// The command did all that it says.
+    #[error("done [Done]")]
     Done,
     /// The words are no form. The number is that of the words that still begin one.
+    #[error("usage: mapt replay C P [Usage({0})]")]
     Usage(u32),
     /// A read of this file failed.
+    #[error("{0} could not be read [ReadFault({0:?})]")]
     ReadFault(FileId),
     /// A write of this file failed.
+    #[error("{0} could not be written [WriteFault({0:?})]")]
     WriteFault(FileId),
     /// This capture has this fault.
+    #[error("{0} is refused: {1} [CaptureRefused({0:?}, {1:?})]")]
     CaptureRefused(FileId, CaptureFault),
     /// This file is over 64 MiB, or the files up to it are together over 128 MiB.
+    #[error("{0} is too long: a file has at most 64 MiB, and all files of a command 128 MiB [TooLong({0:?})]")]
     TooLong(FileId),
     /// Memory ran out.
+    #[error("out of memory [NoMemory]")]
     NoMemory,
     /// What stands in this file isn't served yet.
+    #[error("{0} is of a form that is not served yet [NotBuilt({0:?})]")]
     NotBuilt(FileId),
 }
 

@@ -93,3 +93,48 @@ pub fn mapt_plain<F: Folder, K: Sink>(
         Err(number) => Status::Usage(number),
     }
 }
+
+/// Serves the command that the words spell, as `mapt_plain` does. A gate holds workers back, of which there is
+/// one so far.
+pub fn mapt<R: Threads + Wait + Sync, F: Folder, K: Sink, G: Gate + Sync>(
+    _rt: &R,
+    alloc: Global,
+    words: &[String],
+    folder: &mut F,
+    out: &mut K,
+    _gate: &G,
+) -> Status
+    // The words are no form, and the number says how many of them begin one; nothing changed.
+    ensures usage { IfUsage result (λ number. number ≡ usage_number (map string_bytes words.now)) }
+    ensures no_form { request_of (map string_bytes words.now) ≡ None → result ≡ Status.Usage (usage_number (map string_bytes words.now)) }
+    ensures usage_untouched { IfUsage result (λ _. Untouched F.files K.written K.faults folder.old folder.new out.old out.new) }
+
+    // All that the outcome says was done, and nothing failed.
+    ensures done { IfDone result ((request : Request) × (request_of (map string_bytes words.now) ≡ Some request)
+        × IsDone F.files F.faults K.written K.faults folder.old folder.new out.old out.new request) }
+
+    // A read failed in this call, and nothing changed.
+    ensures read_fault { IfReadFault result (FailedRead F.faults F.last folder.old folder.new) }
+    ensures read_fault_untouched { IfReadFault result (λ _. Untouched F.files K.written K.faults folder.old folder.new out.old out.new) }
+
+    // A write failed in this call. Those before it are done.
+    ensures write_fault { IfWriteFault result (λ file. (request : Request) × (request_of (map string_bytes words.now) ≡ Some request)
+        × IsUnwritten F.files F.faults F.last K.written K.faults folder.old folder.new out.old out.new request file) }
+
+    // The outcome is a refusal of what was read, and nothing changed.
+    ensures refused { IfRefused result (λ status. (request : Request) × (request_of (map string_bytes words.now) ≡ Some request)
+        × IsRefusal F.files F.faults K.written K.faults folder.old folder.new out.old out.new request status) }
+    ensures too_long { IfTooLong result (λ _. RoseBy (file_limit + 1) (F.handed folder.old) (F.handed folder.new)) }
+
+    // Memory ran out. The first ones of the outcome's writes are done, or none.
+    ensures no_memory { IfNoMemory result ((request : Request) × (request_of (map string_bytes words.now) ≡ Some request)
+        × IsLacking F.files F.faults K.written K.faults folder.old folder.new out.old out.new request) }
+
+    // Where the outcome is no refusal and nothing failed, the command is done, unless memory ran out.
+    ensures complete { (request : Request) (files : Files) (plan : Planned) → request_of (map string_bytes words.now) ≡ Some request
+        → F.files folder.old ≡ Some files → outcome request files ≡ Ok plan
+        → (Rose (F.faults folder.old) (F.faults folder.new) → ⊥) → (Rose (K.faults out.old) (K.faults out.new) → ⊥)
+        → (result ≡ Status.Done) ⊎ (result ≡ Status.NoMemory) }
+{
+    mapt_plain(alloc, words, folder, out)
+}

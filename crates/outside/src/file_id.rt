@@ -2,6 +2,7 @@ ghost use Rattle.std.specs.Prelude.{◌≡◌};
 ghost use Rattle.outside.specs.declared.file_id.OutFault.TheVariants.{NoMemory as OutOfMemory};
 
 use octets::NoMemory;
+use std::fmt;
 
 /// Which file of a command is meant. `Report` is the sink. A number is that of an edge.
 #[derive(Clone, Copy, Debug, PartialEq, Eq, Hash)]
@@ -17,6 +18,25 @@ pub enum FileId {
     OutUnrouted,
     Trace,
     Report,
+}
+
+// The file by its role.
+impl fmt::Display for FileId {
+    fn fmt<W: fmt::Write>(&self, f: &mut fmt::Formatter<W>) -> fmt::Result {
+        match self {
+            FileId::Config => write!(f, "the configuration"),
+            FileId::Options => write!(f, "the option file"),
+            FileId::InLan(edge) => write!(f, "the LAN capture of edge {edge}"),
+            FileId::InAccess => write!(f, "the access network's capture"),
+            FileId::InCore => write!(f, "the core's capture"),
+            FileId::OutLan(edge) => write!(f, "the written LAN capture of edge {edge}"),
+            FileId::OutAccess => write!(f, "the written capture of the access network"),
+            FileId::OutCore => write!(f, "the written capture of the core"),
+            FileId::OutUnrouted => write!(f, "the written capture of unrouted packets"),
+            FileId::Trace => write!(f, "the trace"),
+            FileId::Report => write!(f, "the report"),
+        }
+    }
 }
 
 /// Whether a call read or wrote.
