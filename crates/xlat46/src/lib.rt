@@ -40,8 +40,16 @@ pub fn head46(head: &Head4, src: Addr6, dst: Addr6) -> Head6
         hop: head.ttl - 1,
         src,
         dst,
-        upper: if head.proto == ICMP4 { ICMP6 } else { head.proto },
-        start: if frag.is_some() { FRAGMENT_START } else { START },
+        upper: if head.proto == ICMP4 {
+            ICMP6
+        } else {
+            head.proto
+        },
+        start: if frag.is_some() {
+            FRAGMENT_START
+        } else {
+            START
+        },
         length: head.total - u16::from(head.head_len),
         frag,
         left: None,

@@ -1,0 +1,338 @@
+//! What the top calls answer on known inputs, over folders and sinks in memory.
+
+use byteorder::{BigEndian, ByteOrder};
+use inet_sum::{check_of, sum};
+use mapt_tool::{Status, mapt, mapt_plain};
+use outside::{
+    FileId, Folder, FreeGate, MemFolder, MemSink, RealFolder, Sink, SureFolder, SureSink,
+};
+use pcap_files::{CaptureFault, Writer};
+use std::alloc::Global;
+use std::process::Abort;
+use std::test::Fail;
+
+/// The one configuration that is replayed.
+const CONFIG: &[u8] = b"[domain]
+dmr = \"2001:db8:ffff::/64\"
+relay = \"198.51.100.1\"
+mtu4 = 1500
+mtu6 = 1500
+
+[[rule]]
+prefix6 = \"2001:db8::/40\"
+prefix4 = \"192.0.2.0/24\"
+ea = 16
+
+[[edge]]
+name = \"home\"
+prefix = \"2001:db8:12:3400::/56\"
+lan = \"192.168.1.1\"
+capture = \"lan-home.pcap\"
+";
+
+/// UDP from 192.168.1.10:5000 to 198.51.100.7:53.
+const PLAIN: [u8; 30] = [
+    0x45, 0x00, 0x00, 0x1e, 0x00, 0x01, 0x00, 0x00, 0x40, 0x11, 0x8e, 0xe1, 0xc0, 0xa8, 0x01, 0x0a,
+    0xc6, 0x33, 0x64, 0x07, 0x13, 0x88, 0x00, 0x35, 0x00, 0x0a, 0x97, 0xc6, 0x68, 0x69,
+];
+
+/// What it is on the access network, from 2001:db8:12:3400:0:c000:212:34, port 1232.
+const OUTWARD: [u8; 50] = [
+    0x60, 0x00, 0x00, 0x00, 0x00, 0x0a, 0x11, 0x3f, 0x20, 0x01, 0x0d, 0xb8, 0x00, 0x12, 0x34, 0x00,
+    0x00, 0x00, 0xc0, 0x00, 0x02, 0x12, 0x00, 0x34, 0x20, 0x01, 0x0d, 0xb8, 0xff, 0xff, 0x00, 0x00,
+    0x00, 0xc6, 0x33, 0x64, 0x07, 0x00, 0x00, 0x00, 0x04, 0xd0, 0x00, 0x35, 0x00, 0x0a, 0x05, 0x77,
+    0x68, 0x69,
+];
+
+/// The same packet from port 2257, which is in the home's set.
+const CLAIMABLE: [u8; 30] = [
+    0x45, 0x00, 0x00, 0x1e, 0x00, 0x01, 0x00, 0x00, 0x40, 0x11, 0x8e, 0xe1, 0xc0, 0xa8, 0x01, 0x0a,
+    0xc6, 0x33, 0x64, 0x07, 0x08, 0xd1, 0x00, 0x35, 0x00, 0x0a, 0xa2, 0x7d, 0x68, 0x69,
+];
+
+/// It keeps its port.
+const OUTWARD_KEPT: [u8; 50] = [
+    0x60, 0x00, 0x00, 0x00, 0x00, 0x0a, 0x11, 0x3f, 0x20, 0x01, 0x0d, 0xb8, 0x00, 0x12, 0x34, 0x00,
+    0x00, 0x00, 0xc0, 0x00, 0x02, 0x12, 0x00, 0x34, 0x20, 0x01, 0x0d, 0xb8, 0xff, 0xff, 0x00, 0x00,
+    0x00, 0xc6, 0x33, 0x64, 0x07, 0x00, 0x00, 0x00, 0x08, 0xd1, 0x00, 0x35, 0x00, 0x0a, 0x01, 0x76,
+    0x68, 0x69,
+];
+
+/// A capture of these packets, the first at time 0 and each one a second after the one before.
+fn capture_of(rt: &impl Abort, alloc: Global, packets: &[&[u8]]) -> Result<Writer, Fail> {
+    let mut writer = Writer::new(alloc)?;
+    let mut time = 0;
+    for packet in packets {
+        assert!(rt; time < 1_000_000_000 && packet.len() < 65_536);
+        writer.add(time, packet)?;
+        time += 1_000_000;
+    }
+    Ok(writer)
+}
+
+/// The words as the program has them.
+fn words_of(alloc: Global, words: &[&str]) -> Result<Vec<String>, Fail> {
+    let mut all = Vec::new(alloc);
+    for word in words {
+        all.push(String::from_str(alloc, word)?)?;
+    }
+    Ok(all)
+}
+
+/// A folder with the configuration and a LAN capture.
+fn folder_of(alloc: Global, config: &[u8], lan: &[u8]) -> Result<SureFolder, Fail> {
+    let mut folder = SureFolder::new(alloc);
+    folder.put_file("home.toml", config)?;
+    folder.put_file("lan-home.pcap", lan)?;
+    Ok(folder)
+}
+
+/// How a replay of these octets ends.
+fn status_of(alloc: Global, config: &[u8], lan: &[u8]) -> Result<Status, Fail> {
+    let mut folder = folder_of(alloc, config, lan)?;
+    let mut out = SureSink::new(alloc);
+    let words = words_of(alloc, &["replay", "home.toml", "out-"])?;
+    Ok(mapt_plain(alloc, &words, &mut folder, &mut out))
+}
+
+#[test]
+fn a_homes_packets_are_replayed(rt: HostRuntime) -> Result<(), Fail> {
+    let alloc = rt.alloc();
+    let words = words_of(alloc, &["replay", "home.toml", "out-"])?;
+    let lan = capture_of(&rt, alloc, &[&PLAIN, &PLAIN])?;
+    let want = capture_of(&rt, alloc, &[&OUTWARD, &OUTWARD])?;
+
+    let mut folder = folder_of(alloc, CONFIG, lan.as_slice())?;
+    let mut out = SureSink::new(alloc);
+    let status = mapt_plain(alloc, &words, &mut folder, &mut out);
+    assert_eq!(rt; status, Status::Done);
+    assert_eq!(rt; folder.file("out-access.pcap"), Some(want.as_slice()));
+    assert_eq!(rt; out.as_slice(), b"".as_slice());
+
+    let lan = capture_of(&rt, alloc, &[&CLAIMABLE])?;
+    let want = capture_of(&rt, alloc, &[&OUTWARD_KEPT])?;
+    let mut folder = folder_of(alloc, CONFIG, lan.as_slice())?;
+    let status = mapt(&rt, alloc, &words, &mut folder, &mut out, &FreeGate::new());
+    assert_eq!(rt; status, Status::Done);
+    assert_eq!(rt; folder.file("out-access.pcap"), Some(want.as_slice()));
+
+    let none = capture_of(&rt, alloc, &[])?;
+    let mut folder = folder_of(alloc, CONFIG, none.as_slice())?;
+    let status = mapt_plain(alloc, &words, &mut folder, &mut out);
+    assert_eq!(rt; status, Status::Done);
+    assert_eq!(rt; folder.file("out-access.pcap"), Some(none.as_slice()));
+    Ok(())
+}
+
+#[test]
+fn words_that_are_no_form(rt: HostRuntime) -> Result<(), Fail> {
+    let alloc = rt.alloc();
+    let cases: [(&[&str], u32); 7] = [
+        (&[], 0),
+        (&["--help"], 0),
+        (&["Replay", "home.toml", "out-"], 0),
+        (&["replay"], 1),
+        (&["replay", "", "out-"], 1),
+        (&["replay", "home.toml"], 2),
+        (&["replay", "home.toml", "out-", "17"], 3),
+    ];
+    for (words, number) in cases {
+        let words = words_of(alloc, words)?;
+        let mut folder = SureFolder::new(alloc);
+        let mut out = SureSink::new(alloc);
+        let status = mapt_plain(alloc, &words, &mut folder, &mut out);
+        assert_eq!(rt; status, Status::Usage(number));
+    }
+    Ok(())
+}
+
+/// The packet with another octet, and its header's sum right again.
+fn with_octet(rt: &impl Abort, at: usize, octet: u8) -> [u8; 30] {
+    let mut packet = PLAIN;
+    assert!(rt; at < 30);
+    packet[at] = octet;
+    packet[10] = 0;
+    packet[11] = 0;
+    let check = check_of(sum(&packet[..20]));
+    BigEndian::write_u16(&mut packet[10..], check);
+    packet
+}
+
+#[test]
+fn packets_that_are_not_served(rt: HostRuntime) -> Result<(), Fail> {
+    let alloc = rt.alloc();
+    let not_built = Status::NotBuilt(FileId::InLan(0));
+    // Options, a total that is too long, each bit and the offset of the fragment field, a TTL of 2, TCP, a UDP
+    // length that is too long; a destination in the rule's own prefix, and one in a group.
+    let octets = [
+        (0, 0x46),
+        (3, 31),
+        (6, 0x80),
+        (6, 0x20),
+        (7, 1),
+        (8, 2),
+        (9, 6),
+        (25, 11),
+        (16, 224),
+    ];
+    for (at, octet) in octets {
+        let lan = capture_of(&rt, alloc, &[&with_octet(&rt, at, octet)])?;
+        assert_eq!(rt;
+            status_of(alloc, CONFIG, lan.as_slice())?,
+            not_built,
+            "octet {at}"
+        );
+    }
+    let mut wrong_sum = PLAIN;
+    wrong_sum[11] = 0xe2;
+    let mut no_udp_sum = PLAIN;
+    no_udp_sum[26] = 0;
+    no_udp_sum[27] = 0;
+    let short = &PLAIN[..27];
+    let other_port = with_octet(&rt, 21, 0x89);
+    let other_host = with_octet(&rt, 15, 0x0b);
+    let cases: [&[&[u8]]; 6] = [
+        &[&wrong_sum],
+        &[&no_udp_sum],
+        &[short],
+        &[&[]],
+        &[&PLAIN, &other_port],
+        &[&PLAIN, &other_host],
+    ];
+    for packets in cases {
+        let lan = capture_of(&rt, alloc, packets)?;
+        assert_eq!(rt; status_of(alloc, CONFIG, lan.as_slice())?, not_built);
+    }
+    // Times that fall.
+    let mut writer = Writer::new(alloc)?;
+    writer.add(2, &PLAIN)?;
+    writer.add(1, &PLAIN)?;
+    assert_eq!(rt; status_of(alloc, CONFIG, writer.as_slice())?, not_built);
+    Ok(())
+}
+
+#[test]
+fn files_that_are_refused(rt: HostRuntime) -> Result<(), Fail> {
+    let alloc = rt.alloc();
+    let lan = capture_of(&rt, alloc, &[&PLAIN])?;
+    let lan = lan.as_slice();
+    let file = FileId::InLan(0);
+    assert_eq!(rt;
+        status_of(alloc, b"", lan)?,
+        Status::NotBuilt(FileId::Config)
+    );
+    assert_eq!(rt;
+        status_of(alloc, &CONFIG[1..], lan)?,
+        Status::NotBuilt(FileId::Config)
+    );
+    assert_eq!(rt;
+        status_of(alloc, CONFIG, b"")?,
+        Status::CaptureRefused(file, CaptureFault::NotPcap)
+    );
+    assert_eq!(rt; lan.len(), 70);
+    assert_eq!(rt;
+        status_of(alloc, CONFIG, &lan[..69])?,
+        Status::CaptureRefused(file, CaptureFault::Cut(0))
+    );
+    let mut longer = Vec::from_slice(alloc, lan)?;
+    longer.push(0)?;
+    assert_eq!(rt;
+        status_of(alloc, CONFIG, &longer)?,
+        Status::CaptureRefused(file, CaptureFault::Cut(1))
+    );
+    Ok(())
+}
+
+#[test]
+fn calls_that_fail(rt: HostRuntime) -> Result<(), Fail> {
+    let alloc = rt.alloc();
+    let lan = capture_of(&rt, alloc, &[&PLAIN])?;
+    let words = words_of(alloc, &["replay", "home.toml", "out-"])?;
+    let config = Status::ReadFault(FileId::Config);
+    let capture = Status::ReadFault(FileId::InLan(0));
+    // Each file takes one read of its octets and one of its end.
+    for (call, want) in [
+        (0, config),
+        (1, config),
+        (2, capture),
+        (3, capture),
+        (4, Status::Done),
+    ] {
+        let mut folder = MemFolder::new(alloc, vec![in alloc; call]?, vec![in alloc]?);
+        folder.put_file("home.toml", CONFIG)?;
+        folder.put_file("lan-home.pcap", lan.as_slice())?;
+        let mut out = MemSink::new(alloc, vec![in alloc; 0]?);
+        let status = mapt_plain(alloc, &words, &mut folder, &mut out);
+        assert_eq!(rt; status, want, "read {call}");
+        assert_eq!(rt;
+            folder.file("out-access.pcap").is_some(),
+            want == Status::Done
+        );
+    }
+    let mut folder = MemFolder::new(alloc, vec![in alloc]?, vec![in alloc; 0]?);
+    folder.put_file("home.toml", CONFIG)?;
+    let mut out = MemSink::new(alloc, vec![in alloc; 0]?);
+    let status = mapt_plain(alloc, &words, &mut folder, &mut out);
+    assert_eq!(rt; status, capture, "a file that isn't there");
+    folder.put_file("lan-home.pcap", lan.as_slice())?;
+    let status = mapt_plain(alloc, &words, &mut folder, &mut out);
+    assert_eq!(rt; status, Status::WriteFault(FileId::OutAccess));
+    assert_eq!(rt; folder.file("out-access.pcap"), None);
+    assert!(rt; out.put(alloc, b"text").is_err());
+    assert!(rt; out.put(alloc, b"text").is_ok());
+    assert_eq!(rt; out.as_slice(), b"text".as_slice());
+    Ok(())
+}
+
+#[test]
+fn real_files_are_read_again(rt: HostRuntime) -> Result<(), Fail> {
+    let alloc = rt.alloc();
+    let name = "/tmp/mapt-real-folder-test";
+    let mut folder = RealFolder::new(&rt);
+    assert!(rt;
+        folder
+            .write(alloc, FileId::OutAccess, name, b"some text")
+            .is_ok()
+    );
+    let mut buf = [0u8; 6];
+    assert_eq!(rt;
+        folder
+            .read_at(alloc, FileId::InCore, name, 5, &mut buf)
+            .ok(),
+        Some(4)
+    );
+    assert_eq!(rt; buf.as_slice(), b"text\0\0".as_slice());
+    assert_eq!(rt;
+        folder
+            .read_at(alloc, FileId::InCore, name, 9, &mut buf)
+            .ok(),
+        Some(0)
+    );
+    let missing = folder.read_at(alloc, FileId::InCore, "no-such-file", 0, &mut buf);
+    assert!(rt; missing.is_err());
+    Ok(())
+}
+
+#[test]
+fn fault_lines(rt: HostRuntime) -> Result<(), Fail> {
+    let alloc = rt.alloc();
+    let cases = [
+        (Status::Usage(0), "usage: mapt replay C P [Usage(0)]"),
+        (
+            Status::NotBuilt(FileId::InLan(0)),
+            "the LAN capture of edge 0 is of a form that is not served yet [NotBuilt(InLan(0))]",
+        ),
+        (
+            Status::CaptureRefused(FileId::InLan(0), CaptureFault::Cut(3)),
+            "the LAN capture of edge 0 is refused: record 3 is incomplete [CaptureRefused(InLan(0), Cut(3))]",
+        ),
+        (
+            Status::ReadFault(FileId::Config),
+            "the configuration could not be read [ReadFault(Config)]",
+        ),
+    ];
+    for (status, line) in cases {
+        assert_eq!(rt; status.to_string(alloc)?.as_str(), line);
+    }
+    Ok(())
+}
