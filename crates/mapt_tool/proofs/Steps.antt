@@ -10,10 +10,10 @@ use Rattle.mapt_tool.specs.declared.status.Status.TheVariants.{Done, Usage, Read
 use Rattle.mapt_tool.specs.Limits.{file_limit}
 use Rattle.mapt_tool.specs.Read.{IsWhole, IsLonger, FailedRead, FoundLonger, ReadFails}
 use Rattle.mapt_tool.specs.Outcome.{◌>>=◌, text_of}
-use Rattle.mapt_tool.specs.Planning.{Tells, IsRefused, Stops, Answers}
+use Rattle.mapt_tool.specs.Planning.{Tells, gives, IsRefused, Stops, Answers}
 
 -- a file that was read whole
-pub text_read : (told : Option Files) (file : FileId) (name text : List ℕ) → IsWhole told name text → length text ≤ file_limit → Tells told (λ m. text_of m file name) (Ok text)
+pub text_read : (told : Option Files) (file : FileId) (name text : List ℕ) → IsWhole told name text → length text ≤ file_limit → Tells told (gives (λ m. text_of m file name)) (Ok text)
 unfolding text_of
 text_read None file name text whole short = tt
 text_read (Some files) file name text whole short =
@@ -21,7 +21,7 @@ text_read (Some files) file name text whole short =
     rw none (ap Ok (sym whole))
 
 -- a file that is too long
-pub text_longer : (told : Option Files) (file : FileId) (name : List ℕ) → IsLonger told name file_limit → Tells told (λ m. text_of m file name) (Err (TooLong file))
+pub text_longer : (told : Option Files) (file : FileId) (name : List ℕ) → IsLonger told name file_limit → Tells told (gives (λ m. text_of m file name)) (Err (TooLong file))
 unfolding text_of
 text_longer None file name longer = tt
 text_longer (Some files) file name longer =
@@ -30,7 +30,7 @@ text_longer (Some files) file name longer =
 
 -- why a file wasn't read is why the step stops
 pub text_stops : {F : Type 0} (files : F → Option Files) (faults : F → ℕ) (last : F → Option Failure) (handed : F → ℕ) (old new : F) (file : FileId) (name : List ℕ) (status : Status)
-    → ReadFails files faults last handed old new file name file_limit status → Stops files faults last handed old new (λ m. text_of m file name) status
+    → ReadFails files faults last handed old new file name file_limit status → Stops files faults last handed old new (gives (λ m. text_of m file name)) status
 text_stops files faults last handed old new file name (ReadFault named) fails = rw fails.0 fails.1
 text_stops files faults last handed old new file name (TooLong named) fails =
     (record { told = rw fails.0 (text_longer (files old) file name fails.1.longer); unfailed = fails.2 }, fails.1.handed_out)
@@ -43,24 +43,24 @@ text_stops files faults last handed old new file name (WriteFault named) fails =
 
 -- the outcome of two steps, from that of the first and that of the second
 pub tells_then : {A B : Type 0} (told : Option Files) (first : Files → Result A Status) (x : A) (second : A → Files → Result B Status) (answer : Result B Status)
-    → Tells told first (Ok x) → Tells told (second x) answer → Tells told (λ m. first m >>= λ y. second y m) answer
+    → Tells told (gives first) (Ok x) → Tells told (gives (second x)) answer → Tells told (gives (λ m. first m >>= λ y. second y m)) answer
 tells_then None first x second answer a b = tt
 tells_then (Some files) first x second answer a b = rw a b
 
 -- a refusal of the first step is one of both
 pub tells_first : {A B : Type 0} (told : Option Files) (first : Files → Result A Status) (status : Status) (second : A → Files → Result B Status)
-    → Tells told first (Err status) → Tells told (λ m. first m >>= λ y. second y m) (Err status)
+    → Tells told (gives first) (Err status) → Tells told (gives (λ m. first m >>= λ y. second y m)) (Err status)
 tells_first None first status second a = tt
 tells_first (Some files) first status second a = rw a refl
 
 -- a step that reads nothing has one outcome
-pub tells_pure : {A : Type 0} (told : Option Files) (outcome answer : Result A Status) → outcome ≡ answer → Tells told (λ _. outcome) answer
+pub tells_pure : {A : Type 0} (told : Option Files) (outcome answer : Result A Status) → outcome ≡ answer → Tells told (gives (λ _. outcome)) answer
 tells_pure None outcome answer e = tt
 tells_pure (Some files) outcome answer e = e
 
 -- where the first step stops, both do
 pub stops_first : {F A B : Type 0} (files : F → Option Files) (faults : F → ℕ) (last : F → Option Failure) (handed : F → ℕ) (old new : F) (first : Files → Result A Status) (second : A → Files → Result B Status) (status : Status)
-    → Stops files faults last handed old new first status → Stops files faults last handed old new (λ m. first m >>= λ y. second y m) status
+    → Stops files faults last handed old new (gives first) status → Stops files faults last handed old new (gives (λ m. first m >>= λ y. second y m)) status
 stops_first files faults last handed old new first second (ReadFault file) stops = stops
 stops_first files faults last handed old new first second (TooLong file) stops =
     (record { told = tells_first (files old) first (TooLong file) second stops.0.told; unfailed = stops.0.unfailed }, stops.1)
@@ -81,7 +81,7 @@ pub record Leaves {F : Type 0} (files : F → Option Files) (faults handed : F �
 
 -- where the second step stops, both do
 pub stops_then : {F A B : Type 0} (files : F → Option Files) (faults : F → ℕ) (last : F → Option Failure) (handed : F → ℕ) (old mid new : F) (first : Files → Result A Status) (x : A) (second : A → Files → Result B Status) (status : Status)
-    → Leaves files faults handed old mid → Tells (files old) first (Ok x) → Stops files faults last handed mid new (second x) status → Stops files faults last handed old new (λ m. first m >>= λ y. second y m) status
+    → Leaves files faults handed old mid → Tells (files old) (gives first) (Ok x) → Stops files faults last handed mid new (gives (second x)) status → Stops files faults last handed old new (gives (λ m. first m >>= λ y. second y m)) status
 stops_then files faults last handed old mid new first x second (ReadFault file) left done stops =
     record { rose = rw (← left.unfailed) stops.rose; told = stops.told }
 stops_then files faults last handed old mid new first x second (TooLong file) left done stops =
@@ -97,7 +97,7 @@ stops_then files faults last handed old mid new first x second (WriteFault file)
 
 -- where a step that reads nothing stops
 pub stops_pure : {F A X : Type 0} (files : F → Option Files) (faults : F → ℕ) (last : F → Option Failure) (handed : F → ℕ) (now : F) (view : X → A) (outcome : Result A Status) (status : Status)
-    → Answers view (Err status) outcome → Stops files faults last handed now now (λ _. outcome) status
+    → Answers view (Err status) outcome → Stops files faults last handed now now (gives (λ _. outcome)) status
 stops_pure files faults last handed now view outcome (ReadFault file) answers = absurd answers
 stops_pure files faults last handed now view outcome (TooLong file) answers = absurd answers
 stops_pure files faults last handed now view outcome (CaptureRefused file fault) answers =

@@ -12,13 +12,13 @@ use Rattle.mapt_tool.specs.Carried.{FailedAt, Began, Finished, Silent, SaidAll, 
 use Rattle.mapt_tool.specs.Limits.{file_limit}
 use Rattle.mapt_tool.specs.Outcome.{replayed}
 use Rattle.mapt_tool.specs.Planned.{Planned}
-use Rattle.mapt_tool.specs.Planning.{Tells}
+use Rattle.mapt_tool.specs.Planning.{Tells, gives}
 use Rattle.mapt_tool.specs.Read.{FailedRead}
 use Rattle.mapt_tool.specs.Words.{Request, replay}
 
 -- what a command does, or for what it refuses, by the files
-abbrev pub outcome : Request → Files → Result Planned Status
-outcome (replay config prefix) files = replayed config prefix files
+abbrev pub Outcome : Request → Files → Result Planned Status → Type 0
+Outcome (replay config prefix) = gives (replayed config prefix)
 
 -- neither files nor sink changed
 pub record Untouched {F K : Type 0} (files : F → Option Files) (written : K → Option (List ℕ)) (sink_faults : K → ℕ) (old new : F) (sink_old sink_new : K) : Type 0 where
@@ -28,27 +28,27 @@ pub record Untouched {F K : Type 0} (files : F → Option Files) (written : K �
 -- all that the outcome says was done
 pub record IsDone {F K : Type 0} (files : F → Option Files) (faults : F → ℕ) (written : K → Option (List ℕ)) (sink_faults : K → ℕ) (old new : F) (sink_old sink_new : K) (request : Request) : Type 0 where
   pub plan : Planned
-  pub told : Tells (files old) (outcome request) (Ok plan)
+  pub told : Tells (files old) (Outcome request) (Ok plan)
   pub files_done : Finished files faults old new plan.writes
   pub text_done : SaidAll written sink_faults sink_old sink_new plan.text
 
 -- the outcome is this refusal, and nothing changed
 pub record IsRefusal {F K : Type 0} (files : F → Option Files) (faults : F → ℕ) (written : K → Option (List ℕ)) (sink_faults : K → ℕ) (old new : F) (sink_old sink_new : K) (request : Request) (status : Status) : Type 0 where
-  pub told : Tells (files old) (outcome request) (Err status)
+  pub told : Tells (files old) (Outcome request) (Err status)
   pub unfailed : faults new ≡ faults old
   pub untouched : Untouched files written sink_faults old new sink_old sink_new
 
 -- a write of the outcome's failed, and what comes after it isn't done
 pub record IsUnwritten {F K : Type 0} (files : F → Option Files) (faults : F → ℕ) (last : F → Option Failure) (written : K → Option (List ℕ)) (sink_faults : K → ℕ) (old new : F) (sink_old sink_new : K) (request : Request) (file : FileId) : Type 0 where
   pub plan : Planned
-  pub told : Tells (files old) (outcome request) (Ok plan)
+  pub told : Tells (files old) (Outcome request) (Ok plan)
   pub failed : (FailedAt files faults last old new plan.writes file × Silent written sink_faults sink_old sink_new)
       ⊎ ((file ≡ Report) × Finished files faults old new plan.writes × SaidPart written sink_faults sink_old sink_new plan.text)
 
 -- memory ran out: before anything was written, or after some of the outcome's writes, the first ones
 pub record BeganPlan {F K : Type 0} (files : F → Option Files) (faults : F → ℕ) (written : K → Option (List ℕ)) (sink_faults : K → ℕ) (old new : F) (sink_old sink_new : K) (request : Request) : Type 0 where
   pub plan : Planned
-  pub told : Tells (files old) (outcome request) (Ok plan)
+  pub told : Tells (files old) (Outcome request) (Ok plan)
   pub begun : Began files faults old new plan.writes
   pub silent : Silent written sink_faults sink_old sink_new
 

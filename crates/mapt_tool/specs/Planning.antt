@@ -10,26 +10,30 @@ use Rattle.mapt_tool.specs.Limits.{file_limit}
 use Rattle.mapt_tool.specs.Read.{FailedRead}
 
 -- the outcome is this, where the folder tells its files
-abbrev pub Tells : {A : Type 0} → Option Files → (Files → Result A Status) → Result A Status → Type 0
-Tells None outcome answer = ⊤
-Tells (Some files) outcome answer = outcome files ≡ answer
+abbrev pub Tells : {A : Type 0} → Option Files → (Files → Result A Status → Type 0) → Result A Status → Type 0
+Tells None Outcome answer = ⊤
+Tells (Some files) Outcome answer = Outcome files answer
+
+-- an outcome that the files determine
+abbrev pub gives : {A : Type 0} → (Files → Result A Status) → Files → Result A Status → Type 0
+gives outcome files answer = outcome files ≡ answer
 
 -- a refusal, which no failure of the outside made
-pub record IsRefused {F A : Type 0} (files : F → Option Files) (faults : F → ℕ) (old new : F) (outcome : Files → Result A Status) (status : Status) : Type 0 where
-  pub told : Tells (files old) outcome (Err status)
+pub record IsRefused {F A : Type 0} (files : F → Option Files) (faults : F → ℕ) (old new : F) (Outcome : Files → Result A Status → Type 0) (status : Status) : Type 0 where
+  pub told : Tells (files old) Outcome (Err status)
   pub unfailed : faults new ≡ faults old
 
 -- why a step that reads ended before, by its status
-abbrev pub Stops : {F A : Type 0} → (F → Option Files) → (F → ℕ) → (F → Option Failure) → (F → ℕ) → F → F → (Files → Result A Status) → Status → Type 0
-Stops files faults last handed old new outcome (ReadFault file) = FailedRead faults last old new file
-Stops files faults last handed old new outcome (TooLong file) =
-    IsRefused files faults old new outcome (TooLong file) × RoseBy (file_limit + 1) (handed old) (handed new)
-Stops files faults last handed old new outcome (CaptureRefused file fault) = IsRefused files faults old new outcome (CaptureRefused file fault)
-Stops files faults last handed old new outcome (NotBuilt file) = IsRefused files faults old new outcome (NotBuilt file)
-Stops files faults last handed old new outcome NoMemory = faults new ≡ faults old
-Stops files faults last handed old new outcome Done = ⊥
-Stops files faults last handed old new outcome (Usage i) = ⊥
-Stops files faults last handed old new outcome (WriteFault file) = ⊥
+abbrev pub Stops : {F A : Type 0} → (F → Option Files) → (F → ℕ) → (F → Option Failure) → (F → ℕ) → F → F → (Files → Result A Status → Type 0) → Status → Type 0
+Stops files faults last handed old new Outcome (ReadFault file) = FailedRead faults last old new file
+Stops files faults last handed old new Outcome (TooLong file) =
+    IsRefused files faults old new Outcome (TooLong file) × RoseBy (file_limit + 1) (handed old) (handed new)
+Stops files faults last handed old new Outcome (CaptureRefused file fault) = IsRefused files faults old new Outcome (CaptureRefused file fault)
+Stops files faults last handed old new Outcome (NotBuilt file) = IsRefused files faults old new Outcome (NotBuilt file)
+Stops files faults last handed old new Outcome NoMemory = faults new ≡ faults old
+Stops files faults last handed old new Outcome Done = ⊥
+Stops files faults last handed old new Outcome (Usage i) = ⊥
+Stops files faults last handed old new Outcome (WriteFault file) = ⊥
 
 -- what a step that reads nothing answers, unless memory ran out
 abbrev pub Answers : {A B : Type 0} → (A → B) → Result A Status → Result B Status → Type 0

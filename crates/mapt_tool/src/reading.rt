@@ -1,5 +1,5 @@
 ghost use Rattle.std.specs.Prelude.{◌≡◌, ◌≤◌, ◌<◌, ◌+◌, ◌^◌, length, IfOk, IfErr, OnOk, Ok};
-ghost use Rattle.mapt_tool.specs.Planning.{Tells, Stops};
+ghost use Rattle.mapt_tool.specs.Planning.{Tells, gives, Stops};
 ghost use Rattle.mapt_tool.specs.Outcome.{text_of};
 ghost use Rattle.mapt_tool.specs.Read.{HoldsFrom, IsWhole, PieceFails, ReadFails};
 ghost use Rattle.octets.specs.Count.{counted};
@@ -96,13 +96,13 @@ pub fn read_text<F: Folder>(
     file: FileId,
     name: &str,
 ) -> Result<Bytes, Status>
-    ensures ok { IfOk result (λ text. Tells (F.files folder.old) (λ m. text_of m file name.now) (Ok text)) }
+    ensures ok { IfOk result (λ text. Tells (F.files folder.old) (gives (λ m. text_of m file name.now)) (Ok text)) }
     ensures ok_faults { OnOk result (F.faults folder.new ≡ F.faults folder.old) }
     ensures short { IfOk result (λ text. length text ≤ FILE_LIMIT) }
     ensures files { F.files folder.new ≡ F.files folder.old }
     ensures handed_rises { F.handed folder.old ≤ F.handed folder.new }
     ensures faults_rise { F.faults folder.old ≤ F.faults folder.new }
-    ensures err { IfErr result (Stops F.files F.faults F.last F.handed folder.old folder.new (λ m. text_of m file name.now)) }
+    ensures err { IfErr result (Stops F.files F.faults F.last F.handed folder.old folder.new (gives (λ m. text_of m file name.now))) }
 {
     match read_whole(alloc, folder, file, name, FILE_LIMIT) {
         Ok(text) => Ok(text),

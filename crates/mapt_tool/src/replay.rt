@@ -2,7 +2,7 @@ ghost use Rattle.std.specs.Prelude.{◌≡◌, length, IsTrue, IfOk, IfErr, OnOk
 ghost use Rattle.std.specs.List.{list_all};
 ghost use Rattle.pcap_files.specs.Written.{written, IsWritable};
 ghost use Rattle.mapt_tool.specs.Home.{is_served, Stands};
-ghost use Rattle.mapt_tool.specs.Planning.{Tells, Stops, Answers};
+ghost use Rattle.mapt_tool.specs.Planning.{Tells, gives, Stops, Answers};
 ghost use Rattle.mapt_tool.specs.Outcome.{times_from, same_source, have_one_source, are_served, outward_record, access_file, home_only, lan_records, planned_of, with_lan, replayed};
 
 use crate::config::{ACCESS_SUFFIX, HOME_CONFIG, HOME_LAN};
@@ -166,12 +166,12 @@ fn home_only(text: &[u8]) -> Result<(), Status>
 
 /// Reads the LAN capture, and plans what is written.
 fn with_lan<F: Folder>(alloc: Global, folder: &mut F, prefix: &str) -> Result<Plan, Status>
-    ensures ok { IfOk result (λ plan. Tells (F.files folder.old) (with_lan prefix.now) (Ok plan)) }
+    ensures ok { IfOk result (λ plan. Tells (F.files folder.old) (gives (with_lan prefix.now)) (Ok plan)) }
     ensures ok_faults { OnOk result (F.faults folder.new ≡ F.faults folder.old) }
     ensures files { F.files folder.new ≡ F.files folder.old }
     ensures handed_rises { F.handed folder.old ≤ F.handed folder.new }
     ensures faults_rise { F.faults folder.old ≤ F.faults folder.new }
-    ensures err { IfErr result (Stops F.files F.faults F.last F.handed folder.old folder.new (with_lan prefix.now)) }
+    ensures err { IfErr result (Stops F.files F.faults F.last F.handed folder.old folder.new (gives (with_lan prefix.now))) }
 {
     let octets = match read_text(alloc, folder, FileId::InLan(0), HOME_LAN) {
         Ok(octets) => octets,
@@ -190,12 +190,12 @@ pub fn replay<F: Folder>(
     config: &str,
     prefix: &str,
 ) -> Result<Plan, Status>
-    ensures ok { IfOk result (λ plan. Tells (F.files folder.old) (replayed config.now prefix.now) (Ok plan)) }
+    ensures ok { IfOk result (λ plan. Tells (F.files folder.old) (gives (replayed config.now prefix.now)) (Ok plan)) }
     ensures ok_faults { OnOk result (F.faults folder.new ≡ F.faults folder.old) }
     ensures files { F.files folder.new ≡ F.files folder.old }
     ensures handed_rises { F.handed folder.old ≤ F.handed folder.new }
     ensures faults_rise { F.faults folder.old ≤ F.faults folder.new }
-    ensures err { IfErr result (Stops F.files F.faults F.last F.handed folder.old folder.new (replayed config.now prefix.now)) }
+    ensures err { IfErr result (Stops F.files F.faults F.last F.handed folder.old folder.new (gives (replayed config.now prefix.now))) }
 {
     let text = match read_text(alloc, folder, FileId::Config, config) {
         Ok(text) => text,

@@ -1,14 +1,14 @@
-ghost use Rattle.std.specs.Prelude.{◌≡◌, ◌⊎◌, ℕ, map, Ok, Some, None, IfOk, IfErr, OnOk, ◌≤◌, ◌+◌};
+ghost use Rattle.std.specs.Prelude.{◌≡◌, ◌⊎◌, ℕ, map, Ok, Err, Some, None, IfOk, IfErr, OnOk, ◌≤◌, ◌+◌};
 ghost use Rattle.std.specs.String.{string_bytes};
 ghost use Rattle.octets.specs.Count.{Rose, RoseBy};
 ghost use Rattle.outside.specs.Files.{Files};
 ghost use Rattle.mapt_tool.specs.Limits.{file_limit};
-ghost use Rattle.mapt_tool.specs.Planned.{Planned};
+ghost use Rattle.mapt_tool.specs.declared.status.Status.{Status as Ending};
 ghost use Rattle.mapt_tool.specs.Planning.{Tells, Stops};
 ghost use Rattle.mapt_tool.specs.Read.{FailedRead};
 ghost use Rattle.mapt_tool.specs.Status.{IfDone, IfUsage, IfReadFault, IfWriteFault, IfTooLong, IfRefused, IfNoMemory};
 ghost use Rattle.mapt_tool.specs.Words.{Request, request_of, seen, usage_number};
-ghost use Rattle.mapt_tool.specs.Ends.{outcome, Serves, Untouched, IsDone, IsUnwritten, IsRefusal, IsLacking};
+ghost use Rattle.mapt_tool.specs.Ends.{Outcome, Serves, Untouched, IsDone, IsUnwritten, IsRefusal, IsLacking};
 
 use crate::carrying::carry_out;
 use crate::plan::Plan;
@@ -22,12 +22,12 @@ use std::thread::Threads;
 
 /// What the command does to the outside.
 fn plan_of<F: Folder>(alloc: Global, folder: &mut F, command: Command<'_>) -> Result<Plan, Status>
-    ensures ok { IfOk result (λ plan. Tells (F.files folder.old) (outcome (seen command.entry)) (Ok plan)) }
+    ensures ok { IfOk result (λ plan. Tells (F.files folder.old) (Outcome (seen command.entry)) (Ok plan)) }
     ensures ok_faults { OnOk result (F.faults folder.new ≡ F.faults folder.old) }
     ensures files { F.files folder.new ≡ F.files folder.old }
     ensures handed_rises { F.handed folder.old ≤ F.handed folder.new }
     ensures faults_rise { F.faults folder.old ≤ F.faults folder.new }
-    ensures err { IfErr result (Stops F.files F.faults F.last F.handed folder.old folder.new (outcome (seen command.entry))) }
+    ensures err { IfErr result (Stops F.files F.faults F.last F.handed folder.old folder.new (Outcome (seen command.entry))) }
 {
     match command {
         Command::Replay { config, prefix } => replay(alloc, folder, config, prefix),
@@ -83,8 +83,8 @@ pub fn mapt_plain<F: Folder, K: Sink>(
         × IsLacking F.files F.faults K.written K.faults folder.old folder.new out.old out.new request) }
 
     // Where the outcome is no refusal and nothing failed, the command is done, unless memory ran out.
-    ensures complete { (request : Request) (files : Files) (plan : Planned) → request_of (map string_bytes words.now) ≡ Some request
-        → F.files folder.old ≡ Some files → outcome request files ≡ Ok plan
+    ensures complete { (request : Request) (files : Files) → request_of (map string_bytes words.now) ≡ Some request
+        → F.files folder.old ≡ Some files → ((status : Ending) → Outcome request files (Err status) → ⊥)
         → (Rose (F.faults folder.old) (F.faults folder.new) → ⊥) → (Rose (K.faults out.old) (K.faults out.new) → ⊥)
         → (result ≡ Status.Done) ⊎ (result ≡ Status.NoMemory) }
 {
@@ -131,8 +131,8 @@ pub fn mapt<R: Threads + Wait + Sync, F: Folder, K: Sink, G: Gate + Sync>(
         × IsLacking F.files F.faults K.written K.faults folder.old folder.new out.old out.new request) }
 
     // Where the outcome is no refusal and nothing failed, the command is done, unless memory ran out.
-    ensures complete { (request : Request) (files : Files) (plan : Planned) → request_of (map string_bytes words.now) ≡ Some request
-        → F.files folder.old ≡ Some files → outcome request files ≡ Ok plan
+    ensures complete { (request : Request) (files : Files) → request_of (map string_bytes words.now) ≡ Some request
+        → F.files folder.old ≡ Some files → ((status : Ending) → Outcome request files (Err status) → ⊥)
         → (Rose (F.faults folder.old) (F.faults folder.new) → ⊥) → (Rose (K.faults out.old) (K.faults out.new) → ⊥)
         → (result ≡ Status.Done) ⊎ (result ≡ Status.NoMemory) }
 {
