@@ -1,5 +1,5 @@
 -- The datagram that the home's packet becomes.
-use Rattle.std.proofs.Common.{◌≡◌, ℕ, ◌+◌, ◌≤◌, List, [], ◌++◌, length, take, drop, refl, sym, ap, ◌∙◌, arith}
+use Rattle.std.proofs.Common.{◌≡◌, ℕ, ◌+◌, ◌≤◌, List, [], ◌++◌, length, take, drop, ap, ◌∙◌, arith}
 use Rattle.std.proofs.lemmas.List.{append-nil, take_all, drop_all, length-drop}
 use Rattle.octets.specs.Field.{word, quad}
 use Rattle.octets.specs.declared.address.Addr6.{Addr6}

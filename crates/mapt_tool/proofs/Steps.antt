@@ -1,16 +1,15 @@
 -- What is told of steps that follow one another.
-use Rattle.std.proofs.Common.{◌≡◌, ℕ, ◌+◌, ◌<◌, ◌≤◌, Bool, true, false, cond, ltb, List, length, Option, None, Some, Result, Ok, Err, refl, sym, ap, ◌∙◌, arith}
+use Rattle.std.proofs.Common.{◌≡◌, ℕ, ◌≤◌, true, false, ltb, List, length, Option, None, Some, Result, Ok, Err, refl, sym, ap, ◌∙◌, arith}
 use Rattle.std.proofs.lemmas.Bool.{le-ltb, lt-ltb}
-use Rattle.octets.specs.Count.{Rose, RoseBy}
 use Rattle.outside.specs.Files.{Files, content_of}
 use Rattle.outside.specs.declared.file_id.FileId.{FileId}
 use Rattle.outside.specs.declared.file_id.Failure.{Failure}
 use Rattle.mapt_tool.specs.declared.status.Status.{Status}
 use Rattle.mapt_tool.specs.declared.status.Status.TheVariants.{Done, Usage, ReadFault, WriteFault, CaptureRefused, TooLong, NoMemory, NotBuilt}
 use Rattle.mapt_tool.specs.Limits.{file_limit}
-use Rattle.mapt_tool.specs.Read.{IsWhole, IsLonger, FailedRead, FoundLonger, ReadFails}
+use Rattle.mapt_tool.specs.Read.{IsWhole, IsLonger, ReadFails}
 use Rattle.mapt_tool.specs.Outcome.{◌>>=◌, text_of}
-use Rattle.mapt_tool.specs.Planning.{Tells, gives, IsRefused, Stops, Answers}
+use Rattle.mapt_tool.specs.Planning.{Tells, gives, Stops, Answers}
 
 -- a file that was read whole
 pub text_read : (told : Option Files) (file : FileId) (name text : List ℕ) → IsWhole told name text → length text ≤ file_limit → Tells told (gives (λ m. text_of m file name)) (Ok text)

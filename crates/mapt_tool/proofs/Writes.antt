@@ -1,10 +1,8 @@
 -- Writing files one after the other.
-use Rattle.std.proofs.Common.{◌≡◌, ℕ, ◌+◌, ◌<◌, suc, List, [], ◌∷◌, ◌++◌, length, get_or, take, drop, Option, refl, sym, ap, ◌∙◌, add-one, arith}
+use Rattle.std.proofs.Common.{◌≡◌, ℕ, ◌+◌, ◌<◌, suc, List, [], ◌∷◌, ◌++◌, length, get_or, take, drop, Option, refl, sym, ap, ◌∙◌}
 use Rattle.std.proofs.lemmas.List.{take_more, take-append-drop}
 use Rattle.std.proofs.Math.Seq.{split_at}
 use Rattle.outside.specs.Files.{Files, SameBut, put_if_told}
-use Rattle.outside.specs.declared.file_id.FileId.{FileId}
-use Rattle.outside.specs.declared.file_id.FileId.TheVariants.{Report}
 use Rattle.outside.specs.declared.file_id.Failure.{Failure}
 use Rattle.outside.specs.declared.file_id.Way.TheVariants.{Write}
 use Rattle.octets.specs.Count.{Rose}

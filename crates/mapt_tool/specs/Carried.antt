@@ -1,6 +1,6 @@
 -- What stands outside after a plan was carried out, by how that ended. A folder is seen by its files, its
 -- count of faults and its last fault; a sink by its text and its count of faults.
-use Rattle.std.specs.Prelude.{◌≡◌, ◌⊎◌, ℕ, List, ◌∷◌, ◌++◌, Option, Some, None}
+use Rattle.std.specs.Prelude.{◌≡◌, ◌⊎◌, ℕ, List, ◌∷◌, ◌++◌, Option, Some}
 use Rattle.octets.specs.Count.{Rose}
 use Rattle.outside.specs.Files.{Files, SameBut}
 use Rattle.outside.specs.Text.{gained, GainedBeginning}

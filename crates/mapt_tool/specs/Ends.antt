@@ -1,7 +1,7 @@
 -- What stands outside after a command, by how it ended. A folder is seen by its files, its counts of faults
 -- and of octets handed out, and its last fault; a sink by its text and its count of faults.
-use Rattle.std.specs.Prelude.{◌≡◌, ◌⊎◌, ℕ, ◌+◌, List, Option, Some, None, Result, Ok, Err}
-use Rattle.octets.specs.Count.{Rose, RoseBy}
+use Rattle.std.specs.Prelude.{◌≡◌, ◌⊎◌, ℕ, ◌+◌, List, Option, Result, Ok, Err}
+use Rattle.octets.specs.Count.{RoseBy}
 use Rattle.outside.specs.Files.{Files}
 use Rattle.outside.specs.declared.file_id.FileId.{FileId}
 use Rattle.outside.specs.declared.file_id.FileId.TheVariants.{Report}

@@ -1,5 +1,5 @@
 -- What a command does to the outside, where it does all of it.
-use Rattle.std.specs.Prelude.{◌≡◌, ℕ, List, [], ◌∷◌, Option, Some, None, ⊤}
+use Rattle.std.specs.Prelude.{ℕ, List, [], ◌∷◌, Option}
 use Rattle.outside.specs.Files.{Files, put_if_told}
 use Rattle.mapt_tool.specs.declared.plan.FileWrite.{FileWrite}
 

@@ -1,5 +1,5 @@
 -- What was read of a file, and why the reading of one ended before.
-use Rattle.std.specs.Prelude.{◌≡◌, ℕ, ◌+◌, ◌<◌, ◌≤◌, List, length, take, Option, Some, None, ⊤}
+use Rattle.std.specs.Prelude.{◌≡◌, ℕ, ◌+◌, ◌<◌, List, length, take, Option, Some, None, ⊤}
 use Rattle.octets.specs.Count.{Rose, RoseBy}
 use Rattle.outside.specs.Files.{Files, content_of}
 use Rattle.outside.specs.declared.file_id.FileId.{FileId}

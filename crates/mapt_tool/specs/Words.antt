@@ -1,5 +1,5 @@
 -- The forms of words that the program serves, and how far given words follow them.
-use Rattle.std.specs.Prelude.{ℕ, suc, ◌+◌, Bool, true, false, not, ◌==◌, ◌&&◌, if◌then◌else◌, max, List, [], ◌∷◌, length, codes, Option, Some, None}
+use Rattle.std.specs.Prelude.{ℕ, ◌+◌, Bool, true, not, ◌==◌, ◌&&◌, if◌then◌else◌, max, List, [], ◌∷◌, length, codes, Option, Some, None}
 use Rattle.std.specs.Str.{bytes_eq}
 use Rattle.mapt_tool.specs.declared.words.Verb.{Verb as VerbType}
 use Rattle.mapt_tool.specs.declared.words.Verb.TheVariants.{Replay}

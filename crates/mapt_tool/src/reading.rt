@@ -12,9 +12,6 @@ use std::alloc::Global;
 /// The longest file that is read, in octets.
 pub const FILE_LIMIT: u64 = 1 << 26;
 
-/// The octets of all files that a command reads.
-pub const ALL_LIMIT: u64 = 1 << 27;
-
 /// How many octets are asked for at a time.
 const PIECE: usize = 65_536;
 

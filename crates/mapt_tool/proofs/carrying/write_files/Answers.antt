@@ -1,5 +1,4 @@
-use Rattle.std.proofs.Common.{◌≡◌, ap, ◌∙◌, Err}
-use Rattle.outside.specs.Files.{put_if_told}
+use Rattle.std.proofs.Common.{ap, Err}
 use Rattle.mapt_tool.proofs.Writes.{finished_more, began_here, failed_here}
 use Rattle.mapt_tool.proofs.carrying.write_files.Goals as goal
 

@@ -1,4 +1,4 @@
-use Rattle.std.proofs.Common.{refl, rules, arith}
+use Rattle.std.proofs.Common.{refl, arith}
 use Rattle.mapt_tool.proofs.Pieces.{holds_none}
 use Rattle.mapt_tool.proofs.reading.read_whole.Goals as goal
 

@@ -1,7 +1,4 @@
-use Rattle.std.proofs.Common.{◌≡◌, ℕ, ◌≤◌, ◌+◌, ◌-◌, List, length, Option}
-use Rattle.octets.specs.Count.{counted}
-use Rattle.outside.specs.Files.{Files}
-use Rattle.mapt_tool.specs.Read.{HoldsFrom}
+use Rattle.std.proofs.Common.{◌+◌, ◌-◌, length}
 use Rattle.mapt_tool.proofs.Pieces.{HasRead}
 use Rattle.mapt_tool.proofs.reading.read_whole.Given as goal
 

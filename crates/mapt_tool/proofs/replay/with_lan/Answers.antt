@@ -2,7 +2,7 @@ use Rattle.std.proofs.Common.{Ok}
 use Rattle.outside.specs.declared.file_id.FileId.TheVariants.{InLan}
 use Rattle.mapt_tool.specs.declared.config.TheConstants.{HOME_LAN}
 use Rattle.mapt_tool.specs.Outcome.{text_of, planned_of, with_lan}
-use Rattle.mapt_tool.proofs.Steps.{Leaves, tells_then, tells_pure, stops_first, stops_then, stops_pure}
+use Rattle.mapt_tool.proofs.Steps.{tells_then, tells_pure, stops_first, stops_then, stops_pure}
 use Rattle.mapt_tool.proofs.replay.with_lan.Goals as goal
 
 pub returns-in-Err-clause-err : goal.returns-in-Err-clause-err
