@@ -117,11 +117,8 @@ pub fn chain_of(first: u8, payload: &[u8]) -> Option<Chain>
     let mut rest = payload;
     while is_sized(number) {
         let header = first_header(rest)?;
-        left = left.or(route_at(
-            number,
-            place + SEGMENTS_LEFT_AT as u32,
-            header[SEGMENTS_LEFT_AT],
-        ));
+        let count_at = place + SEGMENTS_LEFT_AT as u32;
+        left = left.or(route_at(number, count_at, header[SEGMENTS_LEFT_AT]));
         number = header[EXTENSION_NEXT_AT];
         place += header.len() as u32;
         rest = &rest[header.len()..];

@@ -158,6 +158,7 @@ test-has : (rule : Rule) (addr : ℕ) → ((rule.prefix4.bits / 2 ^ (32 - rule.p
 test-has rule addr e = grind (arith, nat_tests)
 
 pub ce6-source : (rule : Rule) (s addr v x : ℕ) → IsSource rule s addr v → in_set rule.offset (psid_len rule) v x ≡ true → ce6_of rule addr x ≡ Some s
+unfolding ce6_of
 ce6-source rule s addr v x is passes =
     let psid : psid_of rule.offset (psid_len rule) x ≡ v = psid-told rule.offset (psid_len rule) v x is.psid passes in
     rw (psid, has-test rule addr is.has, passes, is.whole) refl
@@ -168,6 +169,7 @@ some-tells true false n s e = cc
 some-tells false c n s e = cc
 
 pub source-ce6 : (rule : Rule) (s addr x : ℕ) → addr < 2 ^ 32 → ce6_of rule addr x ≡ Some s → IsSource rule s addr (psid_of rule.offset (psid_len rule) x) × (in_set rule.offset (psid_len rule) (psid_of rule.offset (psid_len rule) x) x ≡ true)
+unfolding ce6_of
 source-ce6 rule s addr x small e =
     let v : ℕ = psid_of rule.offset (psid_len rule) x in
     let told = some-tells ((rule.prefix4.bits / 2 ^ (32 - rule.prefix4.len)) == (addr / 2 ^ (32 - rule.prefix4.len))) (in_set rule.offset (psid_len rule) v x) (rule_address rule addr v) s e in

@@ -23,7 +23,7 @@ rule_address rule addr v = map_address rule.prefix6.bits rule.prefix6.len rule.e
 
 -- the MAP address of an IPv4 address and a port, where the address is of the rule and the port in one
 -- of its port sets
-abbrev pub ce6_of : Rule → ℕ → ℕ → Option ℕ
+unfoldable pub ce6_of : Rule → ℕ → ℕ → Option ℕ
 ce6_of rule addr x =
     let v = psid_of rule.offset (psid_len rule) x in
     if ((rule.prefix4.bits / 2 ^ (32 - rule.prefix4.len)) == (addr / 2 ^ (32 - rule.prefix4.len))) && in_set rule.offset (psid_len rule) v x then Some (rule_address rule addr v) else None

@@ -12,11 +12,13 @@ use port_set::PortSet;
 /// share the addresses of the IPv4 prefix.
 #[derive(Clone, Copy, Debug, PartialEq, Eq, Hash)]
 pub struct Rule {
+    /// The IPv6 prefix that those of the edges begin with.
     pub prefix6: Prefix6,
+    /// The IPv4 prefix of the addresses that they share.
     pub prefix4: Prefix4,
     /// The number of EA bits: those of an address past the IPv4 prefix, then those of the PSID.
     pub ea: u8,
-    /// The PSID offset in bits.
+    /// The PSID offset in bits, at most 15.
     pub offset: u8,
     /// Whether it is a forwarding mapping rule too.
     pub forward: bool,
@@ -30,8 +32,11 @@ pub struct Rule {
 /// What one edge holds: an IPv4 address, a port set, and its own MAP address.
 #[derive(Clone, Copy, Debug, PartialEq, Eq, Hash)]
 pub struct EdgeId {
+    /// The IPv4 address, which other edges may hold with other ports.
     pub addr: Addr4,
+    /// The ports of the address that are the edge's.
     pub ports: PortSet,
+    /// The edge's MAP address.
     pub own6: Addr6,
 }
 
@@ -109,6 +114,7 @@ impl Rule {
 
     /// The MAP address of this IPv4 address and port, or `None` where the address isn't of the rule or
     /// the port in none of its port sets.
+    #[tactic(auto, unfolding(crate::specs::Rule::ce6_of))]
     pub fn ce6(&self, addr: Addr4, port: u16) -> Option<Addr6>
         ensures { MatchOption result (ce6_of self.now addr.0 port ≡ None) (λ s. ce6_of self.now addr.0 port ≡ Some s.0) }
     {

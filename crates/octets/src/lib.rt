@@ -5,22 +5,31 @@
 mod address;
 mod bytes;
 mod cause;
+mod laws;
 mod memory;
 mod mtus;
 mod name;
+mod numeral;
 mod parcel;
 mod prefix;
+mod prefix_text;
 mod proto;
+mod text4;
+mod text6;
 
 pub use address::{Addr4, Addr6, bits_of};
 pub use bytes::Bytes;
 pub use cause::{Cause, Fault};
+pub use laws::written_texts_are_read;
 pub use memory::NoMemory;
 pub use mtus::Mtus;
 pub use name::Name;
 pub use parcel::{Parcel, Parcels};
 pub use prefix::{Prefix4, Prefix6};
+pub use prefix_text::{read_prefix4, read_prefix6};
 pub use proto::Proto;
+pub use text4::{BadText, read_addr4};
+pub use text6::read_addr6;
 
 #[cfg(test)]
 mod tests;

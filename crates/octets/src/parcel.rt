@@ -43,6 +43,20 @@ impl Parcels {
         Ok(())
     }
 
+    /// The same parcels once more.
+    pub fn copy(&self, alloc: Global) -> Result<Parcels, NoMemory>
+        ensures { IfOk result (λ copied. copied ≡ self.now) }
+    {
+        let mut copied = Parcels::new(alloc);
+        for parcel in &self.parcels {
+            copied.push(Parcel {
+                place: parcel.place,
+                bytes: parcel.bytes.copy(alloc)?,
+            })?;
+        }
+        Ok(copied)
+    }
+
     /// The parcels.
     pub fn as_slice(&self) -> &[Parcel]
         ensures { result.now ≡ self.now }

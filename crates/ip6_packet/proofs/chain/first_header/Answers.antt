@@ -1,4 +1,4 @@
-use Rattle.std.proofs.Common.{◌+◌, ◌*◌, arith}
+use Rattle.std.proofs.Common.{arith}
 use Rattle.ip6_packet.proofs.ChainLemmas.{missing, stands}
 use Rattle.ip6_packet.proofs.chain.first_header.Goals as goal
 
@@ -9,4 +9,4 @@ pub returns-then-octets-len : goal.returns-then-octets-len
 returns-then-octets-len c = missing c.args.octets.now (omega arith)
 
 pub returns : goal.returns
-returns c = stands c.args.octets.now ((c.from.result + 1) * 8) (omega arith) (omega arith)
+returns c = stands c.args.octets.now _ (omega arith) (omega arith)

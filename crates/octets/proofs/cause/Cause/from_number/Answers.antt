@@ -1,4 +1,4 @@
-use Rattle.std.proofs.Common.{◌-◌, sym, arith}
+use Rattle.std.proofs.Common.{◌-◌, arith}
 use Rattle.std.proofs.lemmas.Option.{slice_get_past}
 use Rattle.octets.specs.Cause.{causes}
 use Rattle.octets.proofs.cause.Cause.from_number.Goals as goal

@@ -1,0 +1,10 @@
+pub mod Cuts
+pub mod Gaps
+pub mod GroupNumbers
+pub mod Numerals
+pub mod Prefixes
+pub mod Sizes
+pub mod Spelling4
+pub mod Spelling6
+pub mod Turns
+pub mod Written6
