@@ -8,7 +8,7 @@
 set -eu
 
 top="$(cd "$(dirname "$0")/.." && pwd)"
-program="$(realpath "${1:-$top/crates/mapt/out/mapt}")"
+program="$(realpath -m "${1:-$top/crates/mapt/out/mapt}")"
 runs="${RUNS:-5}"
 if [ ! -x "$program" ]; then
     echo "bench: there is no program $program; examples/quickstart.sh builds it" >&2

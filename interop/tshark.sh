@@ -10,7 +10,7 @@ if ! command -v tshark >/dev/null; then
     exit 0
 fi
 top="$(cd "$(dirname "$0")/.." && pwd)"
-program="$(realpath "${1:-$top/crates/mapt/out/mapt}")"
+program="$(realpath -m "${1:-$top/crates/mapt/out/mapt}")"
 if [ ! -x "$program" ]; then
     echo "interop: there is no program $program; examples/quickstart.sh builds it" >&2
     exit 1
