@@ -10,7 +10,7 @@ use Rattle.outside.specs.declared.file_id.Failure.{Failure}
 use Rattle.outside.specs.declared.file_id.Way.TheVariants.{Write}
 use Rattle.mapt_tool.specs.declared.plan.FileWrite.{FileWrite}
 use Rattle.mapt_tool.specs.declared.status.Status.{Status}
-use Rattle.mapt_tool.specs.declared.status.Status.TheVariants.{Done, Usage, ReadFault, WriteFault, CaptureRefused, TooLong, NoMemory, NotBuilt}
+use Rattle.mapt_tool.specs.declared.status.Status.TheVariants.{Done, Usage, ReadFault, WriteFault, SetupRefused, CaptureRefused, TooLong, NoMemory, NotBuilt}
 use Rattle.mapt_tool.specs.Planned.{Planned, after}
 
 -- a write of this file failed: those before it are done, and all others but the named one are as before
@@ -42,6 +42,7 @@ Wrote files faults last old new writes Done = Finished files faults old new writ
 Wrote files faults last old new writes (WriteFault file) = FailedAt files faults last old new writes file
 Wrote files faults last old new writes NoMemory = Began files faults old new writes
 Wrote files faults last old new writes (Usage i) = ⊥
+Wrote files faults last old new writes (SetupRefused cause place) = ⊥
 Wrote files faults last old new writes (CaptureRefused refused fault) = ⊥
 Wrote files faults last old new writes (ReadFault file) = ⊥
 Wrote files faults last old new writes (TooLong file) = ⊥
@@ -67,6 +68,7 @@ Said written faults old new text Done = SaidAll written faults old new text
 Said written faults old new text (WriteFault file) = (file ≡ Report) × SaidPart written faults old new text
 Said written faults old new text NoMemory = Silent written faults old new
 Said written faults old new text (Usage i) = ⊥
+Said written faults old new text (SetupRefused cause place) = ⊥
 Said written faults old new text (CaptureRefused refused fault) = ⊥
 Said written faults old new text (ReadFault file) = ⊥
 Said written faults old new text (TooLong file) = ⊥
@@ -81,6 +83,7 @@ Carried files faults last written sink_faults old new sink_old sink_new plan (Wr
 Carried files faults last written sink_faults old new sink_old sink_new plan NoMemory =
     Began files faults old new plan.writes × Silent written sink_faults sink_old sink_new
 Carried files faults last written sink_faults old new sink_old sink_new plan (Usage i) = ⊥
+Carried files faults last written sink_faults old new sink_old sink_new plan (SetupRefused cause place) = ⊥
 Carried files faults last written sink_faults old new sink_old sink_new plan (CaptureRefused refused fault) = ⊥
 Carried files faults last written sink_faults old new sink_old sink_new plan (ReadFault file) = ⊥
 Carried files faults last written sink_faults old new sink_old sink_new plan (TooLong file) = ⊥

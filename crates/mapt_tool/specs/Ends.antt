@@ -7,18 +7,21 @@ use Rattle.outside.specs.declared.file_id.FileId.{FileId}
 use Rattle.outside.specs.declared.file_id.FileId.TheVariants.{Report}
 use Rattle.outside.specs.declared.file_id.Failure.{Failure}
 use Rattle.mapt_tool.specs.declared.status.Status.{Status}
-use Rattle.mapt_tool.specs.declared.status.Status.TheVariants.{Done, Usage, ReadFault, WriteFault, CaptureRefused, TooLong, NoMemory, NotBuilt}
+use Rattle.mapt_tool.specs.declared.status.Status.TheVariants.{Done, Usage, ReadFault, WriteFault, SetupRefused, CaptureRefused, TooLong, NoMemory, NotBuilt}
+use Rattle.mapt_tool.specs.Asked.{rules_outcome, owner_outcome}
 use Rattle.mapt_tool.specs.Carried.{FailedAt, Began, Finished, Silent, SaidAll, SaidPart}
 use Rattle.mapt_tool.specs.Limits.{file_limit}
 use Rattle.mapt_tool.specs.Outcome.{replayed}
 use Rattle.mapt_tool.specs.Planned.{Planned}
 use Rattle.mapt_tool.specs.Planning.{Tells, gives}
 use Rattle.mapt_tool.specs.Read.{FailedRead}
-use Rattle.mapt_tool.specs.Words.{Request, replay}
+use Rattle.mapt_tool.specs.Words.{Request, replay, rules, owner}
 
 -- what a command does, or for what it refuses, by the files
 abbrev pub Outcome : Request → Files → Result Planned Status → Type 0
 Outcome (replay config prefix) = gives (replayed config prefix)
+Outcome (rules config generation) = rules_outcome config generation
+Outcome (owner config generation addr port) = owner_outcome config generation addr port
 
 -- neither files nor sink changed
 pub record Untouched {F K : Type 0} (files : F → Option Files) (written : K → Option (List ℕ)) (sink_faults : K → ℕ) (old new : F) (sink_old sink_new : K) : Type 0 where
@@ -62,6 +65,7 @@ Serves files faults last handed written sink_faults old new sink_old sink_new re
 Serves files faults last handed written sink_faults old new sink_old sink_new request (Usage i) = ⊥
 Serves files faults last handed written sink_faults old new sink_old sink_new request (ReadFault file) = FailedRead faults last old new file × Untouched files written sink_faults old new sink_old sink_new
 Serves files faults last handed written sink_faults old new sink_old sink_new request (WriteFault file) = IsUnwritten files faults last written sink_faults old new sink_old sink_new request file
+Serves files faults last handed written sink_faults old new sink_old sink_new request (SetupRefused cause place) = IsRefusal files faults written sink_faults old new sink_old sink_new request (SetupRefused cause place)
 Serves files faults last handed written sink_faults old new sink_old sink_new request (CaptureRefused file fault) = IsRefusal files faults written sink_faults old new sink_old sink_new request (CaptureRefused file fault)
 Serves files faults last handed written sink_faults old new sink_old sink_new request (TooLong file) = IsRefusal files faults written sink_faults old new sink_old sink_new request (TooLong file) × RoseBy (file_limit + 1) (handed old) (handed new)
 Serves files faults last handed written sink_faults old new sink_old sink_new request NoMemory = IsLacking files faults written sink_faults old new sink_old sink_new request

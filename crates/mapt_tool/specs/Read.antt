@@ -6,7 +6,7 @@ use Rattle.outside.specs.declared.file_id.FileId.{FileId}
 use Rattle.outside.specs.declared.file_id.Failure.{Failure}
 use Rattle.outside.specs.declared.file_id.Way.TheVariants.{Read}
 use Rattle.mapt_tool.specs.declared.status.Status.{Status}
-use Rattle.mapt_tool.specs.declared.status.Status.TheVariants.{Done, Usage, ReadFault, WriteFault, CaptureRefused, TooLong, NoMemory, NotBuilt}
+use Rattle.mapt_tool.specs.declared.status.Status.TheVariants.{Done, Usage, ReadFault, WriteFault, SetupRefused, CaptureRefused, TooLong, NoMemory, NotBuilt}
 
 -- the octets are the file's first ones, where the folder tells
 abbrev pub HoldsFrom : Option Files → List ℕ → List ℕ → Type 0
@@ -40,6 +40,7 @@ PieceFails faults last old new file NoMemory = faults new ≡ faults old
 PieceFails faults last old new file (TooLong named) = ⊥
 PieceFails faults last old new file Done = ⊥
 PieceFails faults last old new file (Usage i) = ⊥
+PieceFails faults last old new file (SetupRefused cause place) = ⊥
 PieceFails faults last old new file (CaptureRefused refused fault) = ⊥
 PieceFails faults last old new file (WriteFault named) = ⊥
 PieceFails faults last old new file (NotBuilt named) = ⊥
@@ -52,6 +53,7 @@ ReadFails files faults last handed old new file name limit (TooLong named) =
 ReadFails files faults last handed old new file name limit NoMemory = faults new ≡ faults old
 ReadFails files faults last handed old new file name limit Done = ⊥
 ReadFails files faults last handed old new file name limit (Usage i) = ⊥
+ReadFails files faults last handed old new file name limit (SetupRefused cause place) = ⊥
 ReadFails files faults last handed old new file name limit (CaptureRefused refused fault) = ⊥
 ReadFails files faults last handed old new file name limit (WriteFault named) = ⊥
 ReadFails files faults last handed old new file name limit (NotBuilt named) = ⊥

@@ -1,23 +1,48 @@
 -- The forms of words that the program serves, and how far given words follow them.
-use Rattle.std.specs.Prelude.{ℕ, ◌+◌, Bool, true, not, ◌==◌, ◌&&◌, if◌then◌else◌, max, List, [], ◌∷◌, length, codes, Option, Some, None}
+use Rattle.std.specs.Prelude.{ℕ, ◌+◌, ◌-◌, ◌*◌, nat_le, is_some, unwrap_or, Bool, true, not, ◌==◌, ◌&&◌, if◌then◌else◌, max, List, [], ◌∷◌, length, codes, Option, Some, None}
 use Rattle.std.specs.Str.{bytes_eq}
+use Rattle.octets.specs.Text4.{addr4_at}
 use Rattle.mapt_tool.specs.declared.words.Verb.{Verb as VerbType}
-use Rattle.mapt_tool.specs.declared.words.Verb.TheVariants.{Replay}
+use Rattle.mapt_tool.specs.declared.words.Verb.TheVariants.{Replay, Rules, Owner}
 use Rattle.mapt_tool.specs.declared.words.Kind.{Kind}
-use Rattle.mapt_tool.specs.declared.words.Kind.TheVariants.{Verb, FileName, Text}
+use Rattle.mapt_tool.specs.declared.words.Kind.TheVariants.{Verb, FileName, Text, Generation, Address, Port}
 use Rattle.mapt_tool.specs.declared.words.Command.{Command}
-use Rattle.mapt_tool.specs.declared.words.Command.TheVariants.{Replay as Replayed}
-use Rattle.mapt_tool.specs.declared.words.TheConstants.{REPLAY}
+use Rattle.mapt_tool.specs.declared.words.Command.TheVariants.{Replay as Replayed, Rules as Printed, Owner as Asked}
+use Rattle.mapt_tool.specs.declared.words.TheConstants.{REPLAY, RULES, OWNER}
 
 -- how a form's first word is written
 abbrev pub keyword_of : VerbType → List ℕ
 keyword_of Replay = codes "replay"
+keyword_of Rules = codes "rules"
+keyword_of Owner = codes "owner"
+
+-- decimal digits after a number, as long as that isn't above the most
+abbrev pub digits_up_to : ℕ → ℕ → List ℕ → Option ℕ
+digits_up_to most n [] = Some n
+digits_up_to most n (c ∷ cs) =
+    if (nat_le 48 c && nat_le c 57) && nat_le (10 * n + (c - 48)) most then digits_up_to most (10 * n + (c - 48)) cs else None
+
+-- the number of decimal digits without a leading zero, except `0` itself, up to the most
+abbrev pub number_up_to : ℕ → List ℕ → Option ℕ
+number_up_to most [] = None
+number_up_to most (c ∷ []) = digits_up_to most 0 (c ∷ [])
+number_up_to most (c ∷ d ∷ cs) = if c == 48 then None else digits_up_to most 0 (c ∷ d ∷ cs)
+
+-- the greatest numbers of a generation and of a port
+abbrev pub most_generation : ℕ
+most_generation = 64
+
+abbrev pub most_port : ℕ
+most_port = 65535
 
 -- whether a word may stand in a place
 abbrev pub fits : Kind → List ℕ → Bool
 fits (Verb verb) word = bytes_eq word (keyword_of verb)
 fits FileName word = not (length word == 0)
 fits Text word = true
+fits Generation word = is_some (number_up_to most_generation word)
+fits Address word = is_some (addr4_at word)
+fits Port word = is_some (number_up_to most_port word)
 
 -- how many words follow the form, from the first on
 abbrev pub fitting : List Kind → List (List ℕ) → ℕ
@@ -31,7 +56,7 @@ is_of form words = (fitting form words == length form) && (length words == lengt
 
 -- the forms
 abbrev pub forms : List (List Kind)
-forms = REPLAY ∷ []
+forms = REPLAY ∷ RULES ∷ OWNER ∷ []
 
 -- how many words from the first on begin a form: of words that are none, the place of the first that no
 -- form can go on with, or their number
@@ -45,13 +70,27 @@ usage_number words = usage_of forms words
 -- a command, by its words
 pub data Request : Type 0 where
   replay : List ℕ → List ℕ → Request
+  rules : List ℕ → ℕ → Request
+  owner : List ℕ → ℕ → ℕ → ℕ → Request
+
+-- the number that a word spells
+abbrev pub number_in : ℕ → List ℕ → ℕ
+number_in most word = unwrap_or (number_up_to most word) 0
+
+abbrev pub address_in : List ℕ → ℕ
+address_in word = unwrap_or (addr4_at word) 0
 
 -- the command that the words spell
 abbrev pub request_of : List (List ℕ) → Option Request
-request_of (verb ∷ config ∷ prefix ∷ []) =
-    if is_of REPLAY (verb ∷ config ∷ prefix ∷ []) then Some (replay config prefix) else None
+request_of (verb ∷ config ∷ third ∷ []) =
+    if is_of REPLAY (verb ∷ config ∷ third ∷ []) then Some (replay config third)
+    else (if is_of RULES (verb ∷ config ∷ third ∷ []) then Some (rules config (number_in most_generation third)) else None)
+request_of (verb ∷ config ∷ generation ∷ addr ∷ port ∷ []) =
+    if is_of OWNER (verb ∷ config ∷ generation ∷ addr ∷ port ∷ []) then Some (owner config (number_in most_generation generation) (address_in addr) (number_in most_port port)) else None
 request_of words = None
 
 -- a command of the code, as it is spelled
 abbrev pub seen : Command → Request
 seen (Replayed config prefix) = replay config.now prefix.now
+seen (Printed config generation) = rules config.now generation
+seen (Asked config generation addr port) = owner config.now generation addr.0 port

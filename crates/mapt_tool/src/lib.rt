@@ -1,6 +1,7 @@
 //! The commands of the program, and their top call.
 #![tactic(auto)]
 
+mod asked;
 mod carrying;
 mod config;
 mod home;

@@ -1,7 +1,8 @@
 ghost use Rattle.std.specs.Prelude.{◌≡◌};
-ghost use Rattle.mapt_tool.specs.Status.{number_of};
+ghost use Rattle.mapt_tool.specs.Status.{number_of, status_of};
 ghost use Rattle.mapt_tool.specs.declared.status.Status.TheVariants.{NoMemory as OutOfMemory};
 
+use mapt_setup::{SetupCause, SetupFault};
 use octets::NoMemory;
 use outside::FileId;
 use pcap_files::CaptureFault;
@@ -14,7 +15,7 @@ pub enum Status {
     #[error("done [Done]")]
     Done,
     /// The words are no form. The number is that of the words that still begin one.
-    #[error("usage: mapt replay C P [Usage({0})]")]
+    #[error("usage: mapt replay C P, mapt rules C G or mapt owner C G A X [Usage({0})]")]
     Usage(u32),
     /// A read of this file failed.
     #[error("{0} could not be read [ReadFault({0:?})]")]
@@ -22,6 +23,9 @@ pub enum Status {
     /// A write of this file failed.
     #[error("{0} could not be written [WriteFault({0:?})]")]
     WriteFault(FileId),
+    /// The configuration breaks a rule: the first cause, and its least place.
+    #[error("the configuration is refused: {0:?} at {1} [SetupRefused({0:?}, {1})]")]
+    SetupRefused(SetupCause, u32),
     /// This capture has this fault.
     #[error("{0} is refused: {1} [CaptureRefused({0:?}, {1:?})]")]
     CaptureRefused(FileId, CaptureFault),
@@ -46,6 +50,7 @@ impl Status {
             Status::Usage(_) => 2,
             Status::ReadFault(_) => 3,
             Status::WriteFault(_) => 4,
+            Status::SetupRefused(_, _) => 5,
             Status::CaptureRefused(_, _) => 6,
             Status::TooLong(_) => 7,
             Status::NoMemory => 9,
@@ -59,5 +64,16 @@ impl From<NoMemory> for Status {
 
     fn from(_: NoMemory) -> Self {
         Status::NoMemory
+    }
+}
+
+/// How a command ends for what is wrong with its configuration.
+pub fn status_of(fault: SetupFault) -> Status
+    ensures { result ≡ status_of fault }
+{
+    match fault {
+        SetupFault::Refused(cause, place) => Status::SetupRefused(cause, place),
+        SetupFault::NotBuilt => Status::NotBuilt(FileId::Config),
+        SetupFault::NoMemory => Status::NoMemory,
     }
 }

@@ -10,6 +10,7 @@ ghost use Rattle.mapt_tool.specs.Status.{IfDone, IfUsage, IfReadFault, IfWriteFa
 ghost use Rattle.mapt_tool.specs.Words.{Request, request_of, seen, usage_number};
 ghost use Rattle.mapt_tool.specs.Ends.{Outcome, Serves, Untouched, IsDone, IsUnwritten, IsRefusal, IsLacking};
 
+use crate::asked::{owner, rules};
 use crate::carrying::carry_out;
 use crate::plan::Plan;
 use crate::replay::replay;
@@ -31,6 +32,13 @@ fn plan_of<F: Folder>(alloc: Global, folder: &mut F, command: Command<'_>) -> Re
 {
     match command {
         Command::Replay { config, prefix } => replay(alloc, folder, config, prefix),
+        Command::Rules { config, generation } => rules(alloc, folder, config, generation),
+        Command::Owner {
+            config,
+            generation,
+            addr,
+            port,
+        } => owner(alloc, folder, config, generation, addr, port),
     }
 }
 

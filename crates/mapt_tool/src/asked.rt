@@ -1,0 +1,155 @@
+//! The commands that print what a configuration says.
+
+ghost use Rattle.std.specs.Prelude.{◌≡◌, ◌≤◌, map, IfOk, IfErr, OnOk, Ok};
+ghost use Rattle.mapt_tool.specs.Asked.{is_setup, configured, says, rules_said, owner_said, rules_outcome, owner_outcome};
+ghost use Rattle.mapt_tool.specs.Planning.{Tells, Stops, Answers, AnswersOne};
+
+use crate::plan::Plan;
+use crate::reading::read_text;
+use crate::status::{Status, status_of};
+use mapt_setup::{EdgeLine, Setup};
+use octets::{Addr4, Bytes, NoMemory, Prefix6};
+use outside::{FileId, Folder};
+use rule_book::owner_line;
+use std::alloc::Global;
+
+/// The setup of these octets.
+fn setup_in(alloc: Global, text: &[u8]) -> Result<Setup, Status>
+    ensures { AnswersOne (is_setup text.now) result }
+{
+    match Setup::read(alloc, text) {
+        Ok(setup) => Ok(setup),
+        Err(fault) => Err(status_of(fault)),
+    }
+}
+
+/// The setup of the configuration in this file.
+fn configured<F: Folder>(alloc: Global, folder: &mut F, config: &str) -> Result<Setup, Status>
+    ensures ok { IfOk result (λ setup. Tells (F.files folder.old) (configured config.now) (Ok setup)) }
+    ensures ok_faults { OnOk result (F.faults folder.new ≡ F.faults folder.old) }
+    ensures files { F.files folder.new ≡ F.files folder.old }
+    ensures handed_rises { F.handed folder.old ≤ F.handed folder.new }
+    ensures faults_rise { F.faults folder.old ≤ F.faults folder.new }
+    ensures err { IfErr result (Stops F.files F.faults F.last F.handed folder.old folder.new (configured config.now)) }
+{
+    let text = match read_text(alloc, folder, FileId::Config, config) {
+        Ok(text) => text,
+        Err(status) => return Err(status),
+    };
+    match setup_in(alloc, text.as_slice()) {
+        Ok(setup) => Ok(setup),
+        Err(status) => Err(status),
+    }
+}
+
+/// A plan that puts this text on the sink.
+fn saying(alloc: Global, text: &[u8]) -> Result<Plan, NoMemory>
+    ensures { IfOk result (λ plan. plan ≡ says text.now) }
+{
+    let mut plan = Plan::new(alloc);
+    plan.say(text)?;
+    Ok(plan)
+}
+
+/// What is said of the rules of a generation.
+fn rules_said(alloc: Global, setup: &Setup, generation: u32) -> Result<Plan, Status>
+    ensures { Answers (λ plan. plan) result (rules_said setup.now generation) }
+{
+    let book = match setup.book(alloc, generation) {
+        Ok(book) => book,
+        Err(fault) => return Err(status_of(fault)),
+    };
+    Ok(saying(alloc, book.text(alloc)?.as_slice())?)
+}
+
+/// The prefixes of the edges.
+fn prefixes_of(alloc: Global, edges: &[EdgeLine]) -> Result<Vec<Prefix6>, NoMemory>
+    ensures { IfOk result (λ prefixes. prefixes.items ≡ map (λ e. e.prefix) edges.now) }
+{
+    let mut prefixes = Vec::new(alloc);
+    for edge in edges {
+        prefixes.push(edge.prefix)?;
+    }
+    Ok(prefixes)
+}
+
+/// The names of the edges.
+fn names_of(alloc: Global, edges: &[EdgeLine]) -> Result<Vec<Bytes>, NoMemory>
+    ensures { IfOk result (λ names. names.items ≡ map (λ e. e.name) edges.now) }
+{
+    let mut names = Vec::new(alloc);
+    for edge in edges {
+        names.push(edge.name.copy(alloc)?)?;
+    }
+    Ok(names)
+}
+
+/// What is said of the owner of an IPv4 address and port.
+fn owner_said(
+    alloc: Global,
+    setup: &Setup,
+    generation: u32,
+    addr: Addr4,
+    port: u16,
+) -> Result<Plan, Status>
+    ensures { Answers (λ plan. plan) result (owner_said setup.now generation addr.0 port) }
+{
+    let book = match setup.book(alloc, generation) {
+        Ok(book) => book,
+        Err(fault) => return Err(status_of(fault)),
+    };
+    let prefixes = prefixes_of(alloc, setup.edges.as_slice())?;
+    let names = names_of(alloc, setup.edges.as_slice())?;
+    let line = owner_line(alloc, &book, &prefixes, &names, addr, port)?;
+    Ok(saying(alloc, line.as_slice())?)
+}
+
+/// Prints the rules of a generation.
+pub fn rules<F: Folder>(
+    alloc: Global,
+    folder: &mut F,
+    config: &str,
+    generation: u32,
+) -> Result<Plan, Status>
+    ensures ok { IfOk result (λ plan. Tells (F.files folder.old) (rules_outcome config.now generation) (Ok plan)) }
+    ensures ok_faults { OnOk result (F.faults folder.new ≡ F.faults folder.old) }
+    ensures files { F.files folder.new ≡ F.files folder.old }
+    ensures handed_rises { F.handed folder.old ≤ F.handed folder.new }
+    ensures faults_rise { F.faults folder.old ≤ F.faults folder.new }
+    ensures err { IfErr result (Stops F.files F.faults F.last F.handed folder.old folder.new (rules_outcome config.now generation)) }
+{
+    let setup = match configured(alloc, folder, config) {
+        Ok(setup) => setup,
+        Err(status) => return Err(status),
+    };
+    match rules_said(alloc, &setup, generation) {
+        Ok(plan) => Ok(plan),
+        Err(status) => Err(status),
+    }
+}
+
+/// Prints which edge address holds an IPv4 address and port in a generation.
+pub fn owner<F: Folder>(
+    alloc: Global,
+    folder: &mut F,
+    config: &str,
+    generation: u32,
+    addr: Addr4,
+    port: u16,
+) -> Result<Plan, Status>
+    ensures ok { IfOk result (λ plan. Tells (F.files folder.old) (owner_outcome config.now generation addr.0 port) (Ok plan)) }
+    ensures ok_faults { OnOk result (F.faults folder.new ≡ F.faults folder.old) }
+    ensures files { F.files folder.new ≡ F.files folder.old }
+    ensures handed_rises { F.handed folder.old ≤ F.handed folder.new }
+    ensures faults_rise { F.faults folder.old ≤ F.faults folder.new }
+    ensures err { IfErr result (Stops F.files F.faults F.last F.handed folder.old folder.new (owner_outcome config.now generation addr.0 port)) }
+{
+    let setup = match configured(alloc, folder, config) {
+        Ok(setup) => setup,
+        Err(status) => return Err(status),
+    };
+    match owner_said(alloc, &setup, generation, addr, port) {
+        Ok(plan) => Ok(plan),
+        Err(status) => Err(status),
+    }
+}
