@@ -3,3 +3,4 @@ pub mod Pieces
 pub mod Datagram
 pub mod Steps
 pub mod Served
+pub mod ServedHeaders

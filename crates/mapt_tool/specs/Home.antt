@@ -1,6 +1,6 @@
 -- The one home that is served: its rule and its prefix as numbers, what it holds under the rule, and what
 -- its packets become.
-use Rattle.std.specs.Prelude.{◌≡◌, ℕ, ◌≤◌, ◌+◌, ◌-◌, ◌*◌, ◌/◌, ◌^◌, Bool, false, not, ◌&&◌, ◌||◌, ◌==◌, nat_le, if◌then◌else◌, List, [], ◌∷◌, ◌++◌, length, take, drop}
+use Rattle.std.specs.Prelude.{◌≡◌, ℕ, ◌≤◌, ◌+◌, ◌-◌, ◌*◌, ◌/◌, ◌^◌, Bool, false, not, ◌&&◌, ◌||◌, ◌==◌, nat_lt, nat_le, if◌then◌else◌, List, [], ◌∷◌, ◌++◌, length, take, drop}
 use Rattle.octets.specs.Field.{octet, word, quad, part, in_word, in_quad, in_sixteen}
 use Rattle.octets.specs.declared.proto.Proto.TheVariants.{Udp}
 use Rattle.octets.specs.declared.address.Addr4.{Addr4}
@@ -58,6 +58,17 @@ is_served_destination addr =
 
 abbrev pub is_served : List ℕ → Bool
 is_served packet = is_plain_udp packet && is_served_destination (quad packet 16)
+
+-- The same of what is read. Of a header that has no cause to be refused: no options, no fragment, the
+-- protocol UDP, a TTL of at least 3, and a destination outside of the rule's 192.0.2.0/24;
+abbrev pub is_home_head : Head4 → Bool
+is_home_head h =
+    h.head_len == 20 && (not h.mf && (h.offset == 0 && (h.proto == 17 && (nat_le 3 h.ttl && not (h.dst.0 / 2 ^ 8 == 0xc00002)))))
+
+-- and of its packet: it fills the octets, at most 1480, and its reserved flag is 0
+abbrev pub is_filled : Head4 → List ℕ → Bool
+is_filled h packet =
+    h.total == length packet && (nat_le (length packet) 1480 && nat_lt (word packet 6) (2 ^ 15))
 
 -- the header of a served packet
 abbrev pub head_of : List ℕ → Head4

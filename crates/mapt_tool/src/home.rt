@@ -1,12 +1,14 @@
-ghost use Rattle.std.specs.Prelude.{◌≡◌, IsTrue, IfOk, length, drop, ◌≤◌, ◌+◌, ◌^◌};
-ghost use Rattle.mapt_tool.specs.Home.{home_address, far_address, outside_port, is_sized, has_plain_lengths, is_whole_udp, has_sums, is_plain_udp, is_served_destination, is_served, head_of, address_sum, sum_before, sum_after, sum_of, datagram_of, outward, Stands};
+ghost use Rattle.std.specs.Prelude.{◌≡◌, ◌↔◌, IsTrue, IsSome, IfSome, IfOk, length, drop, ◌≤◌, ◌+◌, ◌^◌};
+ghost use Rattle.mapt_tool.specs.Home.{home_address, far_address, outside_port, is_home_head, is_filled, is_served, head_of, address_sum, sum_before, sum_after, sum_of, datagram_of, outward, Stands};
 ghost use Rattle.octets.specs.Field.{octet, word, quad};
 ghost use Rattle.inet_sum.specs.Sum.{as_udp};
+ghost use Rattle.octets.specs.declared.proto.Proto.TheVariants.{Udp};
+ghost use Rattle.l4_headers.specs.Transport.{l4_of};
 
 use byteorder::{BigEndian, ByteOrder};
-use inet_sum::{adjust, fold, sum};
+use inet_sum::{adjust, sum};
 use ip4_packet::Head4;
-use l4_headers::{Ports, set_l4};
+use l4_headers::{L4, Ports, read_l4, set_l4};
 use octets::{Addr4, Addr6, Bytes, NoMemory, Proto};
 use std::alloc::Global;
 use xlat46::head46;
@@ -22,6 +24,21 @@ const EMBEDDED_SHIFT: u32 = 24;
 
 /// The least port of the home's set.
 const LEAST_PORT: u16 = 1232;
+
+/// The octets of a header without options.
+const HEADER_LEN: u8 = 20;
+
+/// The protocol UDP.
+const UDP: u8 = 17;
+
+/// The least TTL that lasts for both nodes.
+const LEAST_TTL: u8 = 3;
+
+/// The rule's IPv4 prefix, 192.0.2.0/24, as its bits.
+const OWN_PREFIX: u32 = 0xc0_0002;
+
+/// The reserved flag in the field of flags and fragment offset (RFC 791, section 3.1).
+const RESERVED: u16 = 1 << 15;
 
 /// The IPv4 address as the access network sees it.
 fn far_address(addr: Addr4) -> Addr6
@@ -41,63 +58,51 @@ fn outside_port(inside: u16) -> u16
     }
 }
 
-/// Whether the octets have the length of a packet that is served.
-fn is_sized(packet: &[u8]) -> bool
-    ensures { result ≡ is_sized packet.now }
-{
-    packet.len() >= 28 && packet.len() <= 1480
+/// The headers of a packet that is served.
+#[derive(Clone, Copy, Debug, PartialEq, Eq)]
+struct Headers {
+    head: Head4,
+    l4: L4,
 }
 
-/// Whether the header has no options, and all lengths agree with the octets.
-fn has_plain_lengths(packet: &[u8]) -> bool
-    requires { 28 ≤ length packet.now }
-    ensures { result ≡ has_plain_lengths packet.now }
+/// Whether the header has no options, belongs to no fragment and carries UDP, its TTL lasts for both nodes,
+/// and its destination isn't the rule's own.
+fn is_home_head(head: &Head4) -> bool
+    ensures { result ≡ is_home_head head.now }
 {
-    let total = usize::from(BigEndian::read_u16(&packet[2..]));
-    let datagram = usize::from(BigEndian::read_u16(&packet[24..]));
-    packet[0] == 0x45 && total == packet.len() && datagram == packet.len() - 20
+    let whole = head.head_len == HEADER_LEN && !head.mf && head.offset == 0;
+    whole && head.proto == UDP && head.ttl >= LEAST_TTL && head.dst.0 >> 8 != OWN_PREFIX
 }
 
-/// Whether the packet is no fragment and carries UDP.
-fn is_whole_udp(packet: &[u8]) -> bool
-    requires { 28 ≤ length packet.now }
-    ensures { result ≡ is_whole_udp packet.now }
+/// Whether the packet fills the octets, can be translated under the access network's MTU, and leaves the
+/// reserved flag 0.
+fn is_filled(head: &Head4, packet: &[u8]) -> bool
+    requires { 20 ≤ length packet.now }
+    ensures { result ≡ is_filled head.now packet.now }
 {
-    let fragment = BigEndian::read_u16(&packet[6..]);
-    (fragment == 0 || fragment == 0x4000) && packet[9] == 17
+    let flags = BigEndian::read_u16(&packet[6..]);
+    usize::from(head.total) == packet.len() && packet.len() <= 1480 && flags < RESERVED
 }
 
-/// Whether the TTL lasts for both nodes, the header's sum is right, and there is a UDP sum.
-fn has_sums(packet: &[u8]) -> bool
-    requires { 28 ≤ length packet.now }
-    ensures { result ≡ has_sums packet.now }
+/// The headers of the packet, where it is served.
+fn served_headers(packet: &[u8]) -> Option<Headers>
+    ensures served { IsSome result ↔ IsTrue (is_served packet.now) }
+    ensures head { IfSome result (λ h. h.head ≡ head_of packet.now) }
+    ensures l4 { IfSome result (λ h. h.l4 ≡ l4_of Udp (drop 20 packet.now)) }
 {
-    let folded = fold(sum(&packet[..20]));
-    let udp_sum = BigEndian::read_u16(&packet[26..]);
-    packet[8] >= 3 && folded == u16::MAX && udp_sum != 0
-}
-
-/// Whether the octets are a whole UDP packet over IPv4 as the home's are.
-fn is_plain_udp(packet: &[u8]) -> bool
-    ensures value { result ≡ is_plain_udp packet.now }
-    ensures stands { IsTrue result → 28 ≤ length packet.now }
-{
-    is_sized(packet) && has_plain_lengths(packet) && is_whole_udp(packet) && has_sums(packet)
-}
-
-/// Whether the destination is neither the rule's own, nor a group, nor unspecified, nor the broadcast address.
-fn is_served_destination(addr: Addr4) -> bool
-    ensures { result ≡ is_served_destination addr.0 }
-{
-    addr.0 >> 8 != 0xc0_0002 && addr.0 >> 28 != 14 && addr.0 != 0 && addr.0 != u32::MAX
-}
-
-/// Whether the packet's destination is served.
-fn goes_far(packet: &[u8]) -> bool
-    requires { 28 ≤ length packet.now }
-    ensures { result ≡ is_served_destination (quad packet.now 16) }
-{
-    is_served_destination(Addr4(BigEndian::read_u32(&packet[16..])))
+    let Ok(head) = Head4::read(packet) else {
+        return None;
+    };
+    if !is_home_head(&head) || !is_filled(&head, packet) {
+        return None;
+    }
+    let Ok(l4) = read_l4(Proto::Udp, &packet[20..], true) else {
+        return None;
+    };
+    if l4.sum == 0 {
+        return None;
+    }
+    Some(Headers { head, l4 })
 }
 
 /// Whether the packet is one of those that are served.
@@ -105,7 +110,7 @@ pub fn is_served(packet: &[u8]) -> bool
     ensures value { result ≡ is_served packet.now }
     ensures stands { IsTrue result → Stands packet.now }
 {
-    is_plain_udp(packet) && goes_far(packet)
+    served_headers(packet).is_some()
 }
 
 /// The header's fields.
