@@ -182,10 +182,16 @@ read_is packet read only served =
     only (head_of packet) (drop 20 packet) (holds packet is) (sound packet is)
 
 -- the two octets at a place behind the header
+pub source_at : (packet : List ℕ) → word (drop 20 packet) 0 ≡ word packet 20
+source_at packet = omega (arith, get_or-drop 20 packet 0 0, get_or-drop 20 packet 1 0)
+
+pub destination_at : (packet : List ℕ) → word (drop 20 packet) 2 ≡ word packet 22
+destination_at packet = omega (arith, get_or-drop 20 packet 2 0, get_or-drop 20 packet 3 0)
+
 length_at : (packet : List ℕ) → word (drop 20 packet) 4 ≡ word packet 24
 length_at packet = omega (arith, get_or-drop 20 packet 4 0, get_or-drop 20 packet 5 0)
 
-sum_at : (packet : List ℕ) → word (drop 20 packet) 6 ≡ word packet 26
+pub sum_at : (packet : List ℕ) → word (drop 20 packet) 6 ≡ word packet 26
 sum_at packet = omega (arith, get_or-drop 20 packet 6 0, get_or-drop 20 packet 7 0)
 
 -- that header passes the tests

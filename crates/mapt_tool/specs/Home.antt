@@ -9,11 +9,12 @@ use Rattle.inet_sum.specs.Sum.{words, folded, adjusted, as_udp}
 use Rattle.ip4_packet.specs.declared.head.Head4.{Head4}
 use Rattle.ip6_packet.specs.Written.{written6}
 use Rattle.l4_headers.specs.declared.ports.Ports.{Ports}
-use Rattle.l4_headers.specs.Transport.{with_l4}
+use Rattle.l4_headers.specs.Transport.{l4_of, with_l4}
 use Rattle.port_set.specs.PortSet.{is_claimable}
 use Rattle.map_rules.specs.Address.{map_address}
 use Rattle.map_rules.specs.Embedding.{embedded}
 use Rattle.xlat46.specs.Head.{translated}
+use Rattle.mapt_tool.specs.declared.home.Headers.{Headers}
 
 -- what 2001:db8:12:3400::/56 holds under the rule of 2001:db8::/40, 192.0.2.0/24 and 16 EA bits: its MAP
 -- address, for 192.0.2.18 with PSID 0x34 of 8 bits
@@ -86,6 +87,11 @@ head_of packet = record {
   total = word packet 2;
   routed = false;
 }
+
+-- the headers of a packet: that of IPv4, and that of UDP
+pub record AreHeaders (headers : Headers) (packet : List ℕ) : Type 0 where
+  pub head : headers.head ≡ head_of packet
+  pub l4 : headers.l4 ≡ l4_of Udp (drop 20 packet)
 
 -- the sum of an address's words
 unfoldable pub address_sum : Addr6 → ℕ

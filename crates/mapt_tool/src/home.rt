@@ -1,26 +1,27 @@
 ghost use Rattle.std.specs.Prelude.{◌≡◌, ◌↔◌, IsTrue, IsSome, IfSome, IfOk, length, drop, ◌≤◌, ◌+◌, ◌^◌};
-ghost use Rattle.mapt_tool.specs.Home.{home_address, far_address, outside_port, is_home_head, is_filled, is_served, head_of, address_sum, sum_before, sum_after, sum_of, datagram_of, outward, Stands};
-ghost use Rattle.octets.specs.Field.{octet, word, quad};
+ghost use Rattle.mapt_tool.specs.Home.{home_address, far_address, outside_port, is_home_head, is_filled, is_served, head_of, AreHeaders, address_sum, sum_before, sum_after, sum_of, datagram_of, outward, Stands};
+ghost use Rattle.octets.specs.Field.{word};
 ghost use Rattle.inet_sum.specs.Sum.{as_udp};
-ghost use Rattle.octets.specs.declared.proto.Proto.TheVariants.{Udp};
-ghost use Rattle.l4_headers.specs.Transport.{l4_of};
 
 use byteorder::{BigEndian, ByteOrder};
 use inet_sum::{adjust, sum};
 use ip4_packet::Head4;
 use l4_headers::{L4, Ports, read_l4, set_l4};
-use octets::{Addr4, Addr6, Bytes, NoMemory, Proto};
+use map_rules::Dmr;
+use octets::{Addr4, Addr6, Bytes, NoMemory, Prefix6, Proto};
 use std::alloc::Global;
 use xlat46::head46;
 
 /// The home's MAP address, 2001:db8:12:3400:0:c000:212:34.
 const HOME: u128 = 0x2001_0db8_0012_3400_0000_c000_0212_0034;
 
-/// The default mapping rule's prefix, 2001:db8:ffff::/64.
-const DEFAULT_PREFIX: u128 = 0x2001_0db8_ffff << 80;
-
-/// Bits behind an IPv4 address that is embedded under a prefix of 64 bits (RFC 6052, section 2.2).
-const EMBEDDED_SHIFT: u32 = 24;
+/// The default mapping rule, 2001:db8:ffff::/64.
+const DEFAULT_RULE: Dmr = Dmr {
+    prefix: Prefix6 {
+        bits: 0x2001_0db8_ffff << 80,
+        len: 64,
+    },
+};
 
 /// The least port of the home's set.
 const LEAST_PORT: u16 = 1232;
@@ -44,7 +45,7 @@ const RESERVED: u16 = 1 << 15;
 fn far_address(addr: Addr4) -> Addr6
     ensures { result ≡ far_address addr.0 }
 {
-    Addr6(DEFAULT_PREFIX + (u128::from(addr.0) << EMBEDDED_SHIFT))
+    DEFAULT_RULE.embed(addr)
 }
 
 /// The outside port of the only host end.
@@ -87,8 +88,7 @@ fn is_filled(head: &Head4, packet: &[u8]) -> bool
 /// The headers of the packet, where it is served.
 fn served_headers(packet: &[u8]) -> Option<Headers>
     ensures served { IsSome result ↔ IsTrue (is_served packet.now) }
-    ensures head { IfSome result (λ h. h.head ≡ head_of packet.now) }
-    ensures l4 { IfSome result (λ h. h.l4 ≡ l4_of Udp (drop 20 packet.now)) }
+    ensures headers { IfSome result (λ headers. AreHeaders headers packet.now) }
 {
     let Ok(head) = Head4::read(packet) else {
         return None;
@@ -128,9 +128,23 @@ fn head_of(packet: &[u8]) -> Head4
         proto: packet[9],
         src: Addr4(BigEndian::read_u32(&packet[12..])),
         dst: Addr4(BigEndian::read_u32(&packet[16..])),
-        head_len: 20,
+        head_len: HEADER_LEN,
         total: BigEndian::read_u16(&packet[2..]),
         routed: false,
+    }
+}
+
+/// The headers of a served packet.
+fn headers_of(packet: &[u8]) -> Headers
+    requires { Stands packet.now }
+    ensures { AreHeaders result packet.now }
+{
+    let Ok(l4) = read_l4(Proto::Udp, &packet[20..], false) else {
+        unreachable!();
+    };
+    Headers {
+        head: head_of(packet),
+        l4,
     }
 }
 
@@ -152,11 +166,12 @@ fn address_sum(addr: Addr6) -> u64
 
 /// The sum of the words that change, as the packet has them: both addresses and the source port.
 #[tactic(auto, unfolding(crate::specs::Home::sum_before))]
-fn sum_before(packet: &[u8]) -> u64
-    requires { 28 ≤ length packet.now }
+fn sum_before(packet: &[u8], port: u16) -> u64
+    requires long { 28 ≤ length packet.now }
+    requires port { port ≡ word packet.now 20 }
     ensures { result ≡ sum_before packet.now }
 {
-    sum(&packet[12..20]) + u64::from(BigEndian::read_u16(&packet[20..]))
+    sum(&packet[12..20]) + u64::from(port)
 }
 
 /// The sum of the words that they become.
@@ -167,47 +182,17 @@ fn sum_after(far: Addr6, port: u16) -> u64
     address_sum(Addr6(HOME)) + address_sum(far) + u64::from(port)
 }
 
-/// The source port.
-fn inside_port(packet: &[u8]) -> u16
-    requires { 28 ≤ length packet.now }
-    ensures { result ≡ word packet.now 20 }
-{
-    BigEndian::read_u16(&packet[20..])
-}
-
-/// The destination's port.
-fn far_port(packet: &[u8]) -> u16
-    requires { 28 ≤ length packet.now }
-    ensures { result ≡ word packet.now 22 }
-{
-    BigEndian::read_u16(&packet[22..])
-}
-
-/// The UDP sum.
-fn udp_sum(packet: &[u8]) -> u16
-    requires { 28 ≤ length packet.now }
-    ensures { result ≡ word packet.now 26 }
-{
-    BigEndian::read_u16(&packet[26..])
-}
-
-/// The destination.
-fn destination(packet: &[u8]) -> Addr4
-    requires { 28 ≤ length packet.now }
-    ensures { result.0 ≡ quad packet.now 16 }
-{
-    Addr4(BigEndian::read_u32(&packet[16..]))
-}
-
 /// The UDP sum after both addresses and the source port changed.
 #[tactic(auto, unfolding(crate::specs::Home::sum_of))]
-fn sum_of(packet: &[u8]) -> u16
-    requires { 28 ≤ length packet.now }
+fn sum_of(packet: &[u8], headers: &Headers) -> u16
+    requires long { 28 ≤ length packet.now }
+    requires headers { AreHeaders headers.now packet.now }
     ensures { result ≡ sum_of packet.now }
 {
-    let far = far_address(destination(packet));
-    let port = outside_port(inside_port(packet));
-    as_udp(adjust(udp_sum(packet), sum_before(packet), sum_after(far, port)))
+    let inside = headers.l4.ports.src;
+    let far = far_address(headers.head.dst);
+    let after = sum_after(far, outside_port(inside));
+    as_udp(adjust(headers.l4.sum, sum_before(packet, inside), after))
 }
 
 /// The UDP datagram as it came.
@@ -221,16 +206,17 @@ fn payload_of(alloc: Global, packet: &[u8]) -> Result<Vec<u8>, NoMemory>
 
 /// The UDP datagram with the outside port and the new sum.
 #[tactic(auto, unfolding(crate::specs::Home::datagram_of))]
-fn datagram_of(alloc: Global, packet: &[u8]) -> Result<Vec<u8>, NoMemory>
-    requires { 28 ≤ length packet.now }
+fn datagram_of(alloc: Global, packet: &[u8], headers: &Headers) -> Result<Vec<u8>, NoMemory>
+    requires long { 28 ≤ length packet.now }
+    requires headers { AreHeaders headers.now packet.now }
     ensures value { IfOk result (λ datagram. datagram.items ≡ datagram_of packet.now) }
     ensures size { IfOk result (λ datagram. length datagram.items + 20 ≡ length packet.now) }
 {
     let ports = Ports {
-        src: outside_port(inside_port(packet)),
-        dst: far_port(packet),
+        src: outside_port(headers.l4.ports.src),
+        dst: headers.l4.ports.dst,
     };
-    let sum = sum_of(packet);
+    let sum = sum_of(packet, headers);
     let mut datagram = payload_of(alloc, packet)?;
     set_l4(Proto::Udp, &mut datagram, ports, sum);
     Ok(datagram)
@@ -243,8 +229,8 @@ pub fn outward(alloc: Global, packet: &[u8]) -> Result<Bytes, NoMemory>
     ensures value { IfOk result (λ octets. octets ≡ outward packet.now) }
     ensures size { IfOk result (λ octets. length octets ≤ 1500) }
 {
-    let head = head_of(packet);
-    let far = far_address(head.dst);
-    let datagram = datagram_of(alloc, packet)?;
-    head46(&head, Addr6(HOME), far).write(alloc, &datagram)
+    let headers = headers_of(packet);
+    let far = far_address(headers.head.dst);
+    let datagram = datagram_of(alloc, packet, &headers)?;
+    head46(&headers.head, Addr6(HOME), far).write(alloc, &datagram)
 }

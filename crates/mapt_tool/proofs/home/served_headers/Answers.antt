@@ -50,8 +50,8 @@ is_one c =
 pub returns-clause-served : goal.returns-clause-served
 returns-clause-served c = (λ _. is_one c, λ _. refl)
 
-pub returns-clause-head : goal.returns-clause-head
-returns-clause-head c = head_is c.args.packet.now c.read.result c.in-Ok.head c.read.ensures.only c.in-Ok.is (is_one c)
-
-pub returns-clause-l4 : goal.returns-clause-l4
-returns-clause-l4 c = rw (take_rest c.args.packet.now 20) at c.in-Ok-read_l4.ensures.value
+pub returns-clause-headers : goal.returns-clause-headers
+returns-clause-headers c = record {
+  head = head_is c.args.packet.now c.read.result c.in-Ok.head c.read.ensures.only c.in-Ok.is (is_one c);
+  l4 = rw (take_rest c.args.packet.now 20) at c.in-Ok-read_l4.ensures.value;
+}
