@@ -1,5 +1,5 @@
 -- The headers of a served packet are read, and what is read of octets that aren't served shows it.
-use Rattle.std.proofs.Common.{◌≡◌, ◌≢◌, ℕ, ◌+◌, ◌-◌, ◌*◌, ◌/◌, ◌%◌, ◌^◌, ◌<◌, ◌≤◌, Bool, true, false, not, ◌&&◌, ◌||◌, ◌⊎◌, inl, inr, eqb, leb, ltb, List, [], length, take, drop, Result, Ok, Err, refl, sym, ap, ◌∙◌, arith}
+use Rattle.std.proofs.Common.{◌≡◌, ◌≢◌, ℕ, ◌-◌, ◌*◌, ◌/◌, ◌%◌, ◌^◌, ◌<◌, ◌≤◌, Bool, true, false, not, ◌&&◌, ◌||◌, ◌⊎◌, inl, inr, eqb, leb, ltb, List, [], length, take, drop, Result, Ok, refl, sym, ap, ◌∙◌, arith}
 use Rattle.std.proofs.lemmas.Bool.{false≢true, both_ways, eqb-true, leb-true, ltb-true, eq-eqb, ne_eqb, le-leb, lt-ltb, not-true, not_from_false, and_parts, and_from, or_cases, cases_lt, cases_eq}
 use Rattle.std.proofs.lemmas.List.{take_all, length-drop, get_or-drop}
 use Rattle.octets.specs.declared.cause.Cause.{Cause}
@@ -10,8 +10,7 @@ use Rattle.octets.specs.declared.proto.Proto.TheVariants.{Udp}
 use Rattle.inet_sum.specs.Sum.{words, folded, IsRight}
 use Rattle.ip4_packet.specs.declared.head.Head4.{Head4}
 use Rattle.ip4_packet.specs.Written.{bit_of}
-use Rattle.ip4_packet.specs.Options.{routed_in}
-use Rattle.ip4_packet.specs.Grammar.{payload_of, HasFields4, Is4}
+use Rattle.ip4_packet.specs.Grammar.{Is4}
 use Rattle.ip4_packet.specs.Causes.{IsNotIp4, IsTruncated4, IsBadHeader4, IsNoDestination4, HasNoCause4}
 use Rattle.ip4_packet.proofs.OptionLemmas.{ends}
 use Rattle.ip4_packet.proofs.CauseLemmas.{spared, below}
@@ -19,23 +18,23 @@ use Rattle.l4_headers.specs.Transport.{IsBadTransport}
 use Rattle.mapt_tool.specs.Home.{is_sized, has_plain_lengths, is_whole_udp, has_sums, is_plain_udp, is_served_destination, is_served, is_home_head, is_filled, head_of}
 
 -- a destination that is served
-record GoesFar (addr : ℕ) : Type 0 where
-  outside : addr / 2 ^ 8 ≢ 0xc00002
-  reachable : IsNoDestination4 addr → ⊥
+pub record GoesFar (addr : ℕ) : Type 0 where
+  pub outside : addr / 2 ^ 8 ≢ 0xc00002
+  pub reachable : IsNoDestination4 addr → ⊥
 
 -- what makes a packet a served one, fact by fact
-record IsServed (packet : List ℕ) : Type 0 where
-  least : 28 ≤ length packet
-  most : length packet ≤ 1480
-  first : octet packet 0 ≡ 0x45
-  total : word packet 2 ≡ length packet
-  datagram : word packet 24 ≡ length packet - 20
-  whole : (word packet 6 ≡ 0) ⊎ (word packet 6 ≡ 0x4000)
-  udp : octet packet 9 ≡ 17
-  lasts : 3 ≤ octet packet 8
-  right : IsRight (take 20 packet)
-  summed : word packet 26 ≢ 0
-  far : GoesFar (quad packet 16)
+pub record IsServed (packet : List ℕ) : Type 0 where
+  pub least : 28 ≤ length packet
+  pub most : length packet ≤ 1480
+  pub first : octet packet 0 ≡ 0x45
+  pub total : word packet 2 ≡ length packet
+  pub datagram : word packet 24 ≡ length packet - 20
+  pub whole : (word packet 6 ≡ 0) ⊎ (word packet 6 ≡ 0x4000)
+  pub udp : octet packet 9 ≡ 17
+  pub lasts : 3 ≤ octet packet 8
+  pub right : IsRight (take 20 packet)
+  pub summed : word packet 26 ≢ 0
+  pub far : GoesFar (quad packet 16)
 
 isnt : (a b : ℕ) → not (eqb a b) ≡ true → a ≢ b
 isnt a b e same = both_ways (eqb a b) (not-true _ e) (eq-eqb a b same)
@@ -68,7 +67,7 @@ whole_test : (field : ℕ) → (field ≡ 0) ⊎ (field ≡ 0x4000) → (eqb fie
 whole_test field (inl h) = rw (eq-eqb field 0 h) refl
 whole_test field (inr h) = rw (ne_eqb field 0 (λ (e : field ≡ 0). omega arith), eq-eqb field 0x4000 h) refl
 
-facts : (packet : List ℕ) → is_served packet ≡ true → IsServed packet
+pub facts : (packet : List ℕ) → is_served packet ≡ true → IsServed packet
 facts packet served =
     let parts = and_parts (is_plain_udp packet) (is_served_destination (quad packet 16)) served in
     let sized = and_parts (is_sized packet) (has_plain_lengths packet && (is_whole_udp packet && has_sums packet)) parts.0 in

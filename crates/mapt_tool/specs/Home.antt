@@ -60,13 +60,13 @@ is_served_destination addr =
 abbrev pub is_served : List ℕ → Bool
 is_served packet = is_plain_udp packet && is_served_destination (quad packet 16)
 
--- The same of what is read. Of a header that has no cause to be refused: no options, no fragment, the
--- protocol UDP, a TTL of at least 3, and a destination outside of the rule's 192.0.2.0/24;
+-- The same, of a header that was read without a cause to refuse it: it has no options, belongs to no
+-- fragment, and carries UDP, its TTL is at least 3, and its destination isn't in the rule's 192.0.2.0/24.
 abbrev pub is_home_head : Head4 → Bool
 is_home_head h =
     h.head_len == 20 && (not h.mf && (h.offset == 0 && (h.proto == 17 && (nat_le 3 h.ttl && not (h.dst.0 / 2 ^ 8 == 0xc00002)))))
 
--- and of its packet: it fills the octets, at most 1480, and its reserved flag is 0
+-- Its packet fills the octets, which are at most 1480, and the reserved flag is 0 (RFC 791, section 3.1).
 abbrev pub is_filled : Head4 → List ℕ → Bool
 is_filled h packet =
     h.total == length packet && (nat_le (length packet) 1480 && nat_lt (word packet 6) (2 ^ 15))

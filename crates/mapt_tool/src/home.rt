@@ -26,6 +26,9 @@ const DEFAULT_RULE: Dmr = Dmr {
 /// The least port of the home's set.
 const LEAST_PORT: u16 = 1232;
 
+/// The most octets of a packet that is served. Its translation is 20 longer.
+const MOST_OCTETS: usize = 1480;
+
 /// The octets of a header without options.
 const HEADER_LEN: u8 = 20;
 
@@ -59,7 +62,7 @@ fn outside_port(inside: u16) -> u16
     }
 }
 
-/// The headers of a packet that is served.
+/// The headers of a packet, as they are read.
 #[derive(Clone, Copy, Debug, PartialEq, Eq)]
 struct Headers {
     head: Head4,
@@ -75,14 +78,13 @@ fn is_home_head(head: &Head4) -> bool
     whole && head.proto == UDP && head.ttl >= LEAST_TTL && head.dst.0 >> 8 != OWN_PREFIX
 }
 
-/// Whether the packet fills the octets, can be translated under the access network's MTU, and leaves the
-/// reserved flag 0.
+/// Whether the packet fills the octets, has no more than are served, and has the reserved flag 0.
 fn is_filled(head: &Head4, packet: &[u8]) -> bool
     requires { 20 ≤ length packet.now }
     ensures { result ≡ is_filled head.now packet.now }
 {
     let flags = BigEndian::read_u16(&packet[6..]);
-    usize::from(head.total) == packet.len() && packet.len() <= 1480 && flags < RESERVED
+    usize::from(head.total) == packet.len() && packet.len() <= MOST_OCTETS && flags < RESERVED
 }
 
 /// The headers of the packet, where it is served.

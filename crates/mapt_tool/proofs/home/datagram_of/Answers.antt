@@ -1,4 +1,4 @@
-use Rattle.std.proofs.Common.{◌≡◌, length, drop, ap, sym, ◌∙◌, rules, arith}
+use Rattle.std.proofs.Common.{◌≡◌, length, drop, ap, ◌∙◌, rules}
 use Rattle.octets.specs.declared.proto.Proto.TheVariants.{Udp}
 use Rattle.l4_headers.specs.Transport.{with_l4}
 use Rattle.mapt_tool.specs.Home.{outside_port}

@@ -1,12 +1,11 @@
-use Rattle.std.proofs.Common.{◌≡◌, ◌≢◌, ℕ, true, false, drop, refl, sym, ap, ◌∙◌, rules}
+use Rattle.std.proofs.Common.{◌≡◌, true, drop, refl, sym, ap, ◌∙◌}
 use Rattle.std.proofs.lemmas.Bool.{false≢true, both_ways}
-use Rattle.octets.specs.Field.{word}
 use Rattle.octets.specs.declared.proto.Proto.TheVariants.{Udp}
 use Rattle.l4_headers.specs.Transport.{IsBadTransport, l4_of}
 use Rattle.l4_headers.specs.declared.ports.L4.{L4}
 use Rattle.std.proofs.lemmas.List.{take_rest}
 use Rattle.ip4_packet.specs.declared.head.Head4.{Head4}
-use Rattle.mapt_tool.specs.Home.{is_home_head, is_filled, is_served, head_of}
+use Rattle.mapt_tool.specs.Home.{is_home_head, is_filled, is_served}
 use Rattle.mapt_tool.proofs.ServedHeaders.{read_is, head_is, head_passes, transport_passes, serves, refuses}
 use Rattle.mapt_tool.proofs.home.served_headers.Goals as goal
 use Rattle.mapt_tool.proofs.home.served_headers.Goals.{then-not-is_home_head-via-then-not-is_home_head, then-not-is_home_head-via-else-not-is_home_head+then-not-is_filled}
@@ -23,7 +22,7 @@ returns-then-not-is_home_head-clause-served c =
     elim c.then-not-is_home_head.branch [
       | then-not-is_home_head-via-then-not-is_home_head w ↦ refuses (is_served packet) (λ served. both_ways _ (sym c.is_home_head.ensures ∙ w.if-not-is_home_head.true) (ap is_home_head (same served) ∙ (head_passes packet served).0))
       | then-not-is_home_head-via-else-not-is_home_head+then-not-is_filled w ↦
-        refuses (is_served packet) (λ served. both_ways _ (sym w.is_filled.ensures ∙ w.if-not-is_filled.true) (ap (λ (h : Head4). is_filled h packet) (same served) ∙ (head_passes packet served).1))
+          refuses (is_served packet) (λ served. both_ways _ (sym w.is_filled.ensures ∙ w.if-not-is_filled.true) (ap (λ (h : Head4). is_filled h packet) (same served) ∙ (head_passes packet served).1))
     ]
 
 pub returns-in_default-read_l4-clause-served : goal.returns-in_default-read_l4-clause-served

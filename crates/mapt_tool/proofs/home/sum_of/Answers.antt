@@ -1,5 +1,4 @@
-use Rattle.std.proofs.Common.{◌≡◌, ap, ◌∙◌}
-use Rattle.octets.specs.Field.{word, quad}
+use Rattle.std.proofs.Common.{ap, ◌∙◌}
 use Rattle.ip4_packet.specs.declared.head.Head4.{Head4}
 use Rattle.l4_headers.specs.declared.ports.L4.{L4}
 use Rattle.mapt_tool.specs.Home.{far_address, outside_port}
