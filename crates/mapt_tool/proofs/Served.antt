@@ -4,13 +4,14 @@ use Rattle.std.specs.List.{list_all, AllByRecursion}
 use Rattle.std.proofs.lemmas.Bool.{and_parts}
 use Rattle.std.proofs.lemmas.List.Elements.{All-from_recursion}
 use Rattle.pcap_files.specs.declared.records.Record.{Record}
-use Rattle.mapt_tool.specs.Home.{is_served, Stands}
+use Rattle.mapt_tool.specs.Home.{is_served, IsServed, Stands}
 use Rattle.mapt_tool.proofs.ServedHeaders.{facts}
 
 pub served_stands : (packet : List ℕ) → is_served packet ≡ true → Stands packet
+unfolding IsServed
 served_stands packet served =
     let is = facts packet served in
-    record { least = is.least; most = is.most; lasts = is.lasts; udp = is.udp; total = is.total }
+    record { served = served; least = is.least; most = is.most; lasts = is.lasts; udp = is.udp; total = is.total }
 
 each_stands : (records : List Record) → list_all (λ r. is_served r.bytes) records ≡ true → AllByRecursion (λ r. Stands r.bytes) records
 each_stands [] served = tt

@@ -23,7 +23,7 @@ pub record GoesFar (addr : ℕ) : Type 0 where
   pub reachable : IsNoDestination4 addr → ⊥
 
 -- what makes a packet a served one, fact by fact
-pub record IsServed (packet : List ℕ) : Type 0 where
+pub record Facts (packet : List ℕ) : Type 0 where
   pub least : 28 ≤ length packet
   pub most : length packet ≤ 1480
   pub first : octet packet 0 ≡ 0x45
@@ -67,7 +67,7 @@ whole_test : (field : ℕ) → (field ≡ 0) ⊎ (field ≡ 0x4000) → (eqb fie
 whole_test field (inl h) = rw (eq-eqb field 0 h) refl
 whole_test field (inr h) = rw (ne_eqb field 0 (λ (e : field ≡ 0). omega arith), eq-eqb field 0x4000 h) refl
 
-pub facts : (packet : List ℕ) → is_served packet ≡ true → IsServed packet
+pub facts : (packet : List ℕ) → is_served packet ≡ true → Facts packet
 facts packet served =
     let parts = and_parts (is_plain_udp packet) (is_served_destination (quad packet 16)) served in
     let sized = and_parts (is_sized packet) (has_plain_lengths packet && (is_whole_udp packet && has_sums packet)) parts.0 in
@@ -93,7 +93,7 @@ facts packet served =
       far = far_facts _ parts.1;
     }
 
-test : (packet : List ℕ) → IsServed packet → is_served packet ≡ true
+test : (packet : List ℕ) → Facts packet → is_served packet ≡ true
 test packet is =
     let size : is_sized packet ≡ true = and_from _ _ (le-leb _ _ is.least) (le-leb _ _ is.most) in
     let lengths : has_plain_lengths packet ≡ true = and_from _ _ (eq-eqb _ _ is.first) (and_from _ _ (eq-eqb _ _ is.total) (eq-eqb _ _ is.datagram)) in
@@ -118,7 +118,7 @@ whole_again field reserved mf offset =
     elim (cases_lt field 1) [ inl lt ↦ inl (omega arith) | inr le ↦ inr (omega arith) ]
 
 -- octets that are served hold their header
-holds : (packet : List ℕ) → IsServed packet → Is4 (head_of packet) (drop 20 packet) packet
+holds : (packet : List ℕ) → Facts packet → Is4 (head_of packet) (drop 20 packet) packet
 holds packet is =
     let bare : 4 * (octet packet 0 % 16) ≡ 20 = omega (arith, is.first) in
     record {
@@ -144,7 +144,7 @@ holds packet is =
     }
 
 -- and have no cause
-sound : (packet : List ℕ) → IsServed packet → HasNoCause4 packet
+sound : (packet : List ℕ) → Facts packet → HasNoCause4 packet
 sound packet is c =
     spared packet 24 (λ _. other) (λ _. short) (λ _. bad) (λ _ wrong. wrong (rw bare is.right)) (λ _. is.far.reachable) c (below c)
   where
@@ -167,10 +167,10 @@ sound packet is c =
     bad (inr (inr (inr (inl long)))) = omega (arith, is.total, is.most, bare, (flags _ is.whole).offset)
     bad (inr (inr (inr (inr broken)))) = omega (arith, broken.0, (flags _ is.whole).mf)
 
-home_head : (packet : List ℕ) → IsServed packet → is_home_head (head_of packet) ≡ true
+home_head : (packet : List ℕ) → Facts packet → is_home_head (head_of packet) ≡ true
 home_head packet is = and_from _ _ (eq-eqb _ _ is.udp) (and_from _ _ (le-leb _ _ is.lasts) (is_not _ _ is.far.outside))
 
-filled : (packet : List ℕ) → IsServed packet → is_filled (head_of packet) packet ≡ true
+filled : (packet : List ℕ) → Facts packet → is_filled (head_of packet) packet ≡ true
 filled packet is =
     and_from _ _ (eq-eqb _ _ is.total) (and_from _ _ (le-leb _ _ is.most) (lt-ltb _ _ (flags _ is.whole).reserved))
 
@@ -201,11 +201,11 @@ head_passes packet served = let is = facts packet served in (home_head packet is
 pub transport_passes : (packet : List ℕ) → is_served packet ≡ true → (IsBadTransport Udp (drop 20 packet) true → ⊥) × (word (drop 20 packet) 6 ≢ 0)
 transport_passes packet served = (stands (facts packet served), summed (facts packet served))
   where
-    stands : IsServed packet → IsBadTransport Udp (drop 20 packet) true → ⊥
+    stands : Facts packet → IsBadTransport Udp (drop 20 packet) true → ⊥
     stands is (inl lt) = omega (arith, is.least, length-drop 20 packet)
     stands is (inr (_, ne)) = ne (length_at packet ∙ is.datagram ∙ sym (length-drop 20 packet))
 
-    summed : IsServed packet → word (drop 20 packet) 6 ≢ 0
+    summed : Facts packet → word (drop 20 packet) 6 ≢ 0
     summed is none = is.summed (sym (sum_at packet) ∙ none)
 
 -- what isn't refused for its transport header

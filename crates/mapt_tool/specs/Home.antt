@@ -1,6 +1,6 @@
 -- The one home that is served: its rule and its prefix as numbers, what it holds under the rule, and what
 -- its packets become.
-use Rattle.std.specs.Prelude.{◌≡◌, ℕ, ◌≤◌, ◌+◌, ◌-◌, ◌*◌, ◌/◌, ◌^◌, Bool, false, not, ◌&&◌, ◌||◌, ◌==◌, nat_lt, nat_le, if◌then◌else◌, List, [], ◌∷◌, ◌++◌, length, take, drop}
+use Rattle.std.specs.Prelude.{◌≡◌, ℕ, ◌≤◌, ◌+◌, ◌-◌, ◌*◌, ◌/◌, ◌^◌, Bool, true, false, not, ◌&&◌, ◌||◌, ◌==◌, nat_lt, nat_le, if◌then◌else◌, List, [], ◌∷◌, ◌++◌, length, take, drop}
 use Rattle.octets.specs.Field.{octet, word, quad, part, in_word, in_quad, in_sixteen}
 use Rattle.octets.specs.declared.proto.Proto.TheVariants.{Udp}
 use Rattle.octets.specs.declared.address.Addr4.{Addr4}
@@ -59,6 +59,10 @@ is_served_destination addr =
 
 abbrev pub is_served : List ℕ → Bool
 is_served packet = is_plain_udp packet && is_served_destination (quad packet 16)
+
+-- the packet is one of those
+unfoldable pub IsServed : List ℕ → Type 0
+IsServed packet = is_served packet ≡ true
 
 -- The same, of a header that was read without a cause to refuse it: it has no options, belongs to no
 -- fragment, and carries UDP, its TTL is at least 3, and its destination isn't in the rule's 192.0.2.0/24.
@@ -120,8 +124,9 @@ unfoldable pub outward : List ℕ → List ℕ
 outward packet =
     written6 (translated (head_of packet) home_address (far_address (quad packet 16))) (datagram_of packet)
 
--- what is used of a served packet: how long it is, that its TTL lasts, and that it is UDP
+-- what is used of a served packet: that it is one, how long it is, that its TTL lasts, and that it is UDP
 pub record Stands (packet : List ℕ) : Type 0 where
+  pub served : IsServed packet
   pub least : 28 ≤ length packet
   pub most : length packet ≤ 1480
   pub lasts : 3 ≤ octet packet 8

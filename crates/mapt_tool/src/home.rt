@@ -1,5 +1,5 @@
 ghost use Rattle.std.specs.Prelude.{◌≡◌, ◌↔◌, IsTrue, IsSome, IfSome, IfOk, length, drop, ◌≤◌, ◌+◌, ◌^◌};
-ghost use Rattle.mapt_tool.specs.Home.{home_address, far_address, outside_port, is_home_head, is_filled, is_served, head_of, AreHeaders, address_sum, sum_before, sum_after, sum_of, datagram_of, outward, Stands};
+ghost use Rattle.mapt_tool.specs.Home.{home_address, far_address, outside_port, is_home_head, is_filled, is_served, IsServed, AreHeaders, address_sum, sum_before, sum_after, sum_of, datagram_of, outward, Stands};
 ghost use Rattle.octets.specs.Field.{word};
 ghost use Rattle.inet_sum.specs.Sum.{as_udp};
 
@@ -115,39 +115,16 @@ pub fn is_served(packet: &[u8]) -> bool
     served_headers(packet).is_some()
 }
 
-/// The header's fields.
-fn head_of(packet: &[u8]) -> Head4
-    requires { 28 ≤ length packet.now }
-    ensures { result ≡ head_of packet.now }
-{
-    Head4 {
-        tos: packet[1],
-        id: BigEndian::read_u16(&packet[4..]),
-        df: BigEndian::read_u16(&packet[6..]) == 0x4000,
-        mf: false,
-        offset: 0,
-        ttl: packet[8],
-        proto: packet[9],
-        src: Addr4(BigEndian::read_u32(&packet[12..])),
-        dst: Addr4(BigEndian::read_u32(&packet[16..])),
-        head_len: HEADER_LEN,
-        total: BigEndian::read_u16(&packet[2..]),
-        routed: false,
-    }
-}
-
 /// The headers of a served packet.
+#[tactic(auto, unfolding(crate::specs::Home::IsServed))]
 fn headers_of(packet: &[u8]) -> Headers
-    requires { Stands packet.now }
+    requires { IsServed packet.now }
     ensures { AreHeaders result packet.now }
 {
-    let Ok(l4) = read_l4(Proto::Udp, &packet[20..], false) else {
+    let Some(headers) = served_headers(packet) else {
         unreachable!();
     };
-    Headers {
-        head: head_of(packet),
-        l4,
-    }
+    headers
 }
 
 /// A check sum as UDP writes it: 0 says that there is none (RFC 768).
