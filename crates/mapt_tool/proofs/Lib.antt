@@ -3,4 +3,4 @@ pub mod Pieces
 pub mod Datagram
 pub mod Steps
 pub mod Served
-pub mod Trials
+pub mod ServedHeaders

@@ -1,17 +1,19 @@
 -- The one home that is served: its rule and its prefix as numbers, what it holds under the rule, and what
 -- its packets become.
-use Rattle.std.specs.Prelude.{◌≡◌, ℕ, ◌≤◌, ◌+◌, ◌-◌, ◌*◌, ◌/◌, ◌^◌, Bool, false, not, ◌&&◌, ◌||◌, ◌==◌, nat_le, if◌then◌else◌, List, length, take, drop}
-use Rattle.octets.specs.Field.{octet, word, quad, part, in_sixteen}
+use Rattle.std.specs.Prelude.{◌≡◌, ℕ, ◌≤◌, ◌+◌, ◌-◌, ◌*◌, ◌/◌, ◌^◌, Bool, true, false, not, ◌&&◌, ◌||◌, ◌==◌, nat_lt, nat_le, if◌then◌else◌, List, [], ◌∷◌, ◌++◌, length, take, drop}
+use Rattle.octets.specs.Field.{octet, word, quad, part, in_word, in_quad, in_sixteen}
 use Rattle.octets.specs.declared.proto.Proto.TheVariants.{Udp}
 use Rattle.octets.specs.declared.address.Addr6.{Addr6}
 use Rattle.inet_sum.specs.Sum.{words, folded, adjusted, as_udp}
 use Rattle.ip4_packet.specs.declared.head.Head4.{Head4}
 use Rattle.ip6_packet.specs.Written.{written6}
-use Rattle.l4_headers.specs.Transport.{with_l4}
+use Rattle.l4_headers.specs.declared.ports.Ports.{Ports}
+use Rattle.l4_headers.specs.Transport.{l4_of, with_l4}
 use Rattle.port_set.specs.PortSet.{is_claimable}
 use Rattle.map_rules.specs.Address.{map_address}
 use Rattle.map_rules.specs.Embedding.{embedded}
 use Rattle.xlat46.specs.Head.{translated}
+use Rattle.mapt_tool.specs.declared.home.Headers.{Headers}
 
 -- what 2001:db8:12:3400::/56 holds under the rule of 2001:db8::/40, 192.0.2.0/24 and 16 EA bits: its MAP
 -- address, for 192.0.2.18 with PSID 0x34 of 8 bits
@@ -57,6 +59,21 @@ is_served_destination addr =
 abbrev pub is_served : List ℕ → Bool
 is_served packet = is_plain_udp packet && is_served_destination (quad packet 16)
 
+-- the packet is one of those
+unfoldable pub IsServed : List ℕ → Type 0
+IsServed packet = is_served packet ≡ true
+
+-- The same, of a header that was read without a cause to refuse it: it has no options, belongs to no
+-- fragment, and carries UDP, its TTL is at least 3, and its destination isn't in the rule's 192.0.2.0/24.
+abbrev pub is_home_head : Head4 → Bool
+is_home_head h =
+    h.head_len == 20 && (not h.mf && (h.offset == 0 && (h.proto == 17 && (nat_le 3 h.ttl && not (h.dst.0 / 2 ^ 8 == 0xc00002)))))
+
+-- Its packet fills the octets, which are at most 1480, and the reserved flag is 0 (RFC 791, section 3.1).
+abbrev pub is_filled : Head4 → List ℕ → Bool
+is_filled h packet =
+    h.total == length packet && (nat_le (length packet) 1480 && nat_lt (word packet 6) (2 ^ 15))
+
 -- the header of a served packet
 abbrev pub head_of : List ℕ → Head4
 head_of packet = record {
@@ -73,6 +90,11 @@ head_of packet = record {
   total = word packet 2;
   routed = false;
 }
+
+-- the headers of a packet: that of IPv4, and that of UDP
+pub record AreHeaders (headers : Headers) (packet : List ℕ) : Type 0 where
+  pub head : headers.head ≡ head_of packet
+  pub l4 : headers.l4 ≡ l4_of Udp (drop 20 packet)
 
 -- the sum of an address's words
 unfoldable pub address_sum : Addr6 → ℕ
@@ -101,8 +123,9 @@ unfoldable pub outward : List ℕ → List ℕ
 outward packet =
     written6 (translated (head_of packet) home_address (far_address (quad packet 16))) (datagram_of packet)
 
--- what is used of a served packet: how long it is, that its TTL lasts, and that it is UDP
+-- what is used of a served packet: that it is one, how long it is, that its TTL lasts, and that it is UDP
 pub record Stands (packet : List ℕ) : Type 0 where
+  pub served : IsServed packet
   pub least : 28 ≤ length packet
   pub most : length packet ≤ 1480
   pub lasts : 3 ≤ octet packet 8

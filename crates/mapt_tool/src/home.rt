@@ -1,33 +1,54 @@
-ghost use Rattle.std.specs.Prelude.{◌≡◌, IsTrue, IfOk, length, drop, ◌≤◌, ◌+◌, ◌^◌};
-ghost use Rattle.mapt_tool.specs.Home.{home_address, far_address, outside_port, is_sized, has_plain_lengths, is_whole_udp, has_sums, is_plain_udp, is_served_destination, is_served, head_of, address_sum, sum_before, sum_after, sum_of, datagram_of, outward, Stands};
-ghost use Rattle.octets.specs.Field.{octet, word, quad};
+ghost use Rattle.std.specs.Prelude.{◌≡◌, ◌↔◌, IsTrue, IsSome, IfSome, IfOk, length, drop, ◌≤◌, ◌+◌, ◌^◌};
+ghost use Rattle.mapt_tool.specs.Home.{home_address, far_address, outside_port, is_home_head, is_filled, is_served, IsServed, AreHeaders, address_sum, sum_before, sum_after, sum_of, datagram_of, outward, Stands};
+ghost use Rattle.octets.specs.Field.{word};
 ghost use Rattle.inet_sum.specs.Sum.{as_udp};
 
 use byteorder::{BigEndian, ByteOrder};
-use inet_sum::{adjust, fold, sum};
+use inet_sum::{adjust, sum};
 use ip4_packet::Head4;
-use l4_headers::{Ports, set_l4};
-use octets::{Addr4, Addr6, Bytes, NoMemory, Proto};
+use l4_headers::{L4, Ports, read_l4, set_l4};
+use map_rules::Dmr;
+use octets::{Addr4, Addr6, Bytes, NoMemory, Prefix6, Proto};
 use std::alloc::Global;
 use xlat46::head46;
 
 /// The home's MAP address, 2001:db8:12:3400:0:c000:212:34.
 const HOME: u128 = 0x2001_0db8_0012_3400_0000_c000_0212_0034;
 
-/// The default mapping rule's prefix, 2001:db8:ffff::/64.
-const DEFAULT_PREFIX: u128 = 0x2001_0db8_ffff << 80;
-
-/// Bits behind an IPv4 address that is embedded under a prefix of 64 bits (RFC 6052, section 2.2).
-const EMBEDDED_SHIFT: u32 = 24;
+/// The default mapping rule, 2001:db8:ffff::/64.
+const DEFAULT_RULE: Dmr = Dmr {
+    prefix: Prefix6 {
+        bits: 0x2001_0db8_ffff << 80,
+        len: 64,
+    },
+};
 
 /// The least port of the home's set.
 const LEAST_PORT: u16 = 1232;
+
+/// The most octets of a packet that is served. Its translation is 20 longer.
+const MOST_OCTETS: usize = 1480;
+
+/// The octets of a header without options.
+const HEADER_LEN: u8 = 20;
+
+/// The protocol UDP.
+const UDP: u8 = 17;
+
+/// The least TTL that lasts for both nodes.
+const LEAST_TTL: u8 = 3;
+
+/// The rule's IPv4 prefix, 192.0.2.0/24, as its bits.
+const OWN_PREFIX: u32 = 0xc0_0002;
+
+/// The reserved flag in the field of flags and fragment offset (RFC 791, section 3.1).
+const RESERVED: u16 = 1 << 15;
 
 /// The IPv4 address as the access network sees it.
 fn far_address(addr: Addr4) -> Addr6
     ensures { result ≡ far_address addr.0 }
 {
-    Addr6(DEFAULT_PREFIX + (u128::from(addr.0) << EMBEDDED_SHIFT))
+    DEFAULT_RULE.embed(addr)
 }
 
 /// The outside port of the only host end.
@@ -41,63 +62,49 @@ fn outside_port(inside: u16) -> u16
     }
 }
 
-/// Whether the octets have the length of a packet that is served.
-fn is_sized(packet: &[u8]) -> bool
-    ensures { result ≡ is_sized packet.now }
-{
-    packet.len() >= 28 && packet.len() <= 1480
+/// The headers of a packet, as they are read.
+#[derive(Clone, Copy, Debug, PartialEq, Eq)]
+struct Headers {
+    head: Head4,
+    l4: L4,
 }
 
-/// Whether the header has no options, and all lengths agree with the octets.
-fn has_plain_lengths(packet: &[u8]) -> bool
-    requires { 28 ≤ length packet.now }
-    ensures { result ≡ has_plain_lengths packet.now }
+/// Whether the header has no options, belongs to no fragment and carries UDP, its TTL lasts for both nodes,
+/// and its destination isn't the rule's own.
+fn is_home_head(head: &Head4) -> bool
+    ensures { result ≡ is_home_head head.now }
 {
-    let total = usize::from(BigEndian::read_u16(&packet[2..]));
-    let datagram = usize::from(BigEndian::read_u16(&packet[24..]));
-    packet[0] == 0x45 && total == packet.len() && datagram == packet.len() - 20
+    let whole = head.head_len == HEADER_LEN && !head.mf && head.offset == 0;
+    whole && head.proto == UDP && head.ttl >= LEAST_TTL && head.dst.0 >> 8 != OWN_PREFIX
 }
 
-/// Whether the packet is no fragment and carries UDP.
-fn is_whole_udp(packet: &[u8]) -> bool
-    requires { 28 ≤ length packet.now }
-    ensures { result ≡ is_whole_udp packet.now }
+/// Whether the packet fills the octets, has no more than are served, and has the reserved flag 0.
+fn is_filled(head: &Head4, packet: &[u8]) -> bool
+    requires { 20 ≤ length packet.now }
+    ensures { result ≡ is_filled head.now packet.now }
 {
-    let fragment = BigEndian::read_u16(&packet[6..]);
-    (fragment == 0 || fragment == 0x4000) && packet[9] == 17
+    let flags = BigEndian::read_u16(&packet[6..]);
+    usize::from(head.total) == packet.len() && packet.len() <= MOST_OCTETS && flags < RESERVED
 }
 
-/// Whether the TTL lasts for both nodes, the header's sum is right, and there is a UDP sum.
-fn has_sums(packet: &[u8]) -> bool
-    requires { 28 ≤ length packet.now }
-    ensures { result ≡ has_sums packet.now }
+/// The headers of the packet, where it is served.
+fn served_headers(packet: &[u8]) -> Option<Headers>
+    ensures served { IsSome result ↔ IsTrue (is_served packet.now) }
+    ensures headers { IfSome result (λ headers. AreHeaders headers packet.now) }
 {
-    let folded = fold(sum(&packet[..20]));
-    let udp_sum = BigEndian::read_u16(&packet[26..]);
-    packet[8] >= 3 && folded == u16::MAX && udp_sum != 0
-}
-
-/// Whether the octets are a whole UDP packet over IPv4 as the home's are.
-fn is_plain_udp(packet: &[u8]) -> bool
-    ensures value { result ≡ is_plain_udp packet.now }
-    ensures stands { IsTrue result → 28 ≤ length packet.now }
-{
-    is_sized(packet) && has_plain_lengths(packet) && is_whole_udp(packet) && has_sums(packet)
-}
-
-/// Whether the destination is neither the rule's own, nor a group, nor unspecified, nor the broadcast address.
-fn is_served_destination(addr: Addr4) -> bool
-    ensures { result ≡ is_served_destination addr.0 }
-{
-    addr.0 >> 8 != 0xc0_0002 && addr.0 >> 28 != 14 && addr.0 != 0 && addr.0 != u32::MAX
-}
-
-/// Whether the packet's destination is served.
-fn goes_far(packet: &[u8]) -> bool
-    requires { 28 ≤ length packet.now }
-    ensures { result ≡ is_served_destination (quad packet.now 16) }
-{
-    is_served_destination(Addr4(BigEndian::read_u32(&packet[16..])))
+    let Ok(head) = Head4::read(packet) else {
+        return None;
+    };
+    if !is_home_head(&head) || !is_filled(&head, packet) {
+        return None;
+    }
+    let Ok(l4) = read_l4(Proto::Udp, &packet[20..], true) else {
+        return None;
+    };
+    if l4.sum == 0 {
+        return None;
+    }
+    Some(Headers { head, l4 })
 }
 
 /// Whether the packet is one of those that are served.
@@ -105,28 +112,19 @@ pub fn is_served(packet: &[u8]) -> bool
     ensures value { result ≡ is_served packet.now }
     ensures stands { IsTrue result → Stands packet.now }
 {
-    is_plain_udp(packet) && goes_far(packet)
+    served_headers(packet).is_some()
 }
 
-/// The header's fields.
-fn head_of(packet: &[u8]) -> Head4
-    requires { 28 ≤ length packet.now }
-    ensures { result ≡ head_of packet.now }
+/// The headers of a served packet.
+#[tactic(auto, unfolding(crate::specs::Home::IsServed))]
+fn headers_of(packet: &[u8]) -> Headers
+    requires { IsServed packet.now }
+    ensures { AreHeaders result packet.now }
 {
-    Head4 {
-        tos: packet[1],
-        id: BigEndian::read_u16(&packet[4..]),
-        df: BigEndian::read_u16(&packet[6..]) == 0x4000,
-        mf: false,
-        offset: 0,
-        ttl: packet[8],
-        proto: packet[9],
-        src: Addr4(BigEndian::read_u32(&packet[12..])),
-        dst: Addr4(BigEndian::read_u32(&packet[16..])),
-        head_len: 20,
-        total: BigEndian::read_u16(&packet[2..]),
-        routed: false,
-    }
+    let Some(headers) = served_headers(packet) else {
+        unreachable!();
+    };
+    headers
 }
 
 /// A check sum as UDP writes it: 0 says that there is none (RFC 768).
@@ -147,11 +145,12 @@ fn address_sum(addr: Addr6) -> u64
 
 /// The sum of the words that change, as the packet has them: both addresses and the source port.
 #[tactic(auto, unfolding(crate::specs::Home::sum_before))]
-fn sum_before(packet: &[u8]) -> u64
-    requires { 28 ≤ length packet.now }
+fn sum_before(packet: &[u8], port: u16) -> u64
+    requires long { 28 ≤ length packet.now }
+    requires port { port ≡ word packet.now 20 }
     ensures { result ≡ sum_before packet.now }
 {
-    sum(&packet[12..20]) + u64::from(BigEndian::read_u16(&packet[20..]))
+    sum(&packet[12..20]) + u64::from(port)
 }
 
 /// The sum of the words that they become.
@@ -162,47 +161,17 @@ fn sum_after(far: Addr6, port: u16) -> u64
     address_sum(Addr6(HOME)) + address_sum(far) + u64::from(port)
 }
 
-/// The source port.
-fn inside_port(packet: &[u8]) -> u16
-    requires { 28 ≤ length packet.now }
-    ensures { result ≡ word packet.now 20 }
-{
-    BigEndian::read_u16(&packet[20..])
-}
-
-/// The destination's port.
-fn far_port(packet: &[u8]) -> u16
-    requires { 28 ≤ length packet.now }
-    ensures { result ≡ word packet.now 22 }
-{
-    BigEndian::read_u16(&packet[22..])
-}
-
-/// The UDP sum.
-fn udp_sum(packet: &[u8]) -> u16
-    requires { 28 ≤ length packet.now }
-    ensures { result ≡ word packet.now 26 }
-{
-    BigEndian::read_u16(&packet[26..])
-}
-
-/// The destination.
-fn destination(packet: &[u8]) -> Addr4
-    requires { 28 ≤ length packet.now }
-    ensures { result.0 ≡ quad packet.now 16 }
-{
-    Addr4(BigEndian::read_u32(&packet[16..]))
-}
-
 /// The UDP sum after both addresses and the source port changed.
 #[tactic(auto, unfolding(crate::specs::Home::sum_of))]
-fn sum_of(packet: &[u8]) -> u16
-    requires { 28 ≤ length packet.now }
+fn sum_of(packet: &[u8], headers: &Headers) -> u16
+    requires long { 28 ≤ length packet.now }
+    requires headers { AreHeaders headers.now packet.now }
     ensures { result ≡ sum_of packet.now }
 {
-    let far = far_address(destination(packet));
-    let port = outside_port(inside_port(packet));
-    as_udp(adjust(udp_sum(packet), sum_before(packet), sum_after(far, port)))
+    let inside = headers.l4.ports.src;
+    let far = far_address(headers.head.dst);
+    let after = sum_after(far, outside_port(inside));
+    as_udp(adjust(headers.l4.sum, sum_before(packet, inside), after))
 }
 
 /// The UDP datagram as it came.
@@ -216,16 +185,17 @@ fn payload_of(alloc: Global, packet: &[u8]) -> Result<Vec<u8>, NoMemory>
 
 /// The UDP datagram with the outside port and the new sum.
 #[tactic(auto, unfolding(crate::specs::Home::datagram_of))]
-fn datagram_of(alloc: Global, packet: &[u8]) -> Result<Vec<u8>, NoMemory>
-    requires { 28 ≤ length packet.now }
+fn datagram_of(alloc: Global, packet: &[u8], headers: &Headers) -> Result<Vec<u8>, NoMemory>
+    requires long { 28 ≤ length packet.now }
+    requires headers { AreHeaders headers.now packet.now }
     ensures value { IfOk result (λ datagram. datagram.items ≡ datagram_of packet.now) }
     ensures size { IfOk result (λ datagram. length datagram.items + 20 ≡ length packet.now) }
 {
     let ports = Ports {
-        src: outside_port(inside_port(packet)),
-        dst: far_port(packet),
+        src: outside_port(headers.l4.ports.src),
+        dst: headers.l4.ports.dst,
     };
-    let sum = sum_of(packet);
+    let sum = sum_of(packet, headers);
     let mut datagram = payload_of(alloc, packet)?;
     set_l4(Proto::Udp, &mut datagram, ports, sum);
     Ok(datagram)
@@ -238,8 +208,8 @@ pub fn outward(alloc: Global, packet: &[u8]) -> Result<Bytes, NoMemory>
     ensures value { IfOk result (λ octets. octets ≡ outward packet.now) }
     ensures size { IfOk result (λ octets. length octets ≤ 1500) }
 {
-    let head = head_of(packet);
-    let far = far_address(head.dst);
-    let datagram = datagram_of(alloc, packet)?;
-    head46(&head, Addr6(HOME), far).write(alloc, &datagram)
+    let headers = headers_of(packet);
+    let far = far_address(headers.head.dst);
+    let datagram = datagram_of(alloc, packet, &headers)?;
+    head46(&headers.head, Addr6(HOME), far).write(alloc, &datagram)
 }
