@@ -1,0 +1,4 @@
+pub mod Seen
+pub mod Spellings
+pub mod Tables
+pub mod Stages

@@ -1,0 +1,10 @@
+pub mod Keys
+pub mod Answer
+pub mod Spelled
+pub mod Rule
+pub mod Domain
+pub mod EdgeName
+pub mod Edge
+pub mod Shapes
+pub mod Crowd
+pub mod Setup

@@ -1,0 +1,106 @@
+ghost use Rattle.std.specs.Prelude.{◌≡◌, IfSome, IfNone, IfOk};
+ghost use Rattle.std.specs.Option.{option_copied};
+ghost use Rattle.toml.specs.View.{table_view};
+ghost use Rattle.mapt_setup.specs.Answer.{Gives, HasNone, the};
+
+use crate::keys::{has_only, number_at, optional_text_at, table_at};
+use crate::spelled::{addr4_at, dmr_at};
+use crate::{SetupCause, SetupFault};
+use map_rules::Dmr;
+use octets::{Addr4, Mtus, Name, NoMemory};
+use std::alloc::Global;
+use toml::Table;
+
+/// The names at the top of a configuration.
+const TOP_NAMES: [&str; 3] = ["domain", "rule", "edge"];
+
+/// The keys of `[domain]`.
+const KEYS: [&str; 6] = ["dmr", "relay", "mtu4", "mtu6", "access", "core"];
+
+/// The range of an MTU, in octets.
+const LEAST_MTU: u16 = 1280;
+
+const MOST_MTU: u16 = 9000;
+
+/// The keys of `[domain]` that must stand.
+#[derive(Clone, Copy, Debug, PartialEq, Eq)]
+pub struct Required {
+    pub dmr: Dmr,
+    pub relay: Addr4,
+    pub mtus: Mtus,
+}
+
+/// What `[domain]` says.
+#[derive(Debug, Drop)]
+pub struct Domain {
+    pub required: Required,
+    /// The capture of the access network.
+    pub access: Option<Name>,
+    /// The capture of the core.
+    pub core: Option<Name>,
+}
+
+impl Required {
+    ghost use Rattle.mapt_setup.specs.Domain.{HasRequired};
+
+    /// These keys of a table, or `None` where one isn't as it should be or another key is unknown.
+    fn of(table: &Table) -> Option<Required>
+        ensures found { IfSome result (HasRequired (table_view table.now)) }
+        ensures none { IfNone result (HasNone HasRequired (table_view table.now)) }
+    {
+        if !has_only(table, &KEYS) {
+            return None;
+        }
+        let dmr = dmr_at(table, "dmr")?;
+        let relay = addr4_at(table, "relay")?;
+        let mtu4 = number_at(table, "mtu4", LEAST_MTU, MOST_MTU)?;
+        let mtu6 = number_at(table, "mtu6", LEAST_MTU, MOST_MTU)?;
+        Some(Required {
+            dmr,
+            relay,
+            mtus: Mtus { mtu4, mtu6 },
+        })
+    }
+}
+
+/// A name in memory of its own.
+pub fn name_of(alloc: Global, text: Option<&str>) -> Result<Option<Name>, NoMemory>
+    ensures { IfOk result (λ name. name ≡ option_copied text.entry) }
+{
+    match text {
+        Some(text) => Ok(Some(Name::of(alloc, text)?)),
+        None => Ok(None),
+    }
+}
+
+impl Domain {
+    ghost use Rattle.mapt_setup.specs.Domain.{IsDomain};
+
+    /// What the document's domain says. `BadDomain` where a key isn't as it should be or a name at the top
+    /// is unknown.
+    pub fn read(alloc: Global, document: &Table) -> Result<Domain, SetupFault>
+        ensures { Gives (λ domain. domain) result (the (IsDomain (table_view document.now)) (SetupFault.Refused SetupCause.BadDomain 0)) }
+    {
+        let bad = SetupFault::Refused(SetupCause::BadDomain, 0);
+        if !has_only(document, &TOP_NAMES) {
+            return Err(bad);
+        }
+        let Some(table) = table_at(document, "domain") else {
+            return Err(bad);
+        };
+        let Some(required) = Required::of(table) else {
+            return Err(bad);
+        };
+        let Some(access) = optional_text_at(table, "access") else {
+            return Err(bad);
+        };
+        let Some(core) = optional_text_at(table, "core") else {
+            return Err(bad);
+        };
+        Ok(Domain {
+            required,
+            access: name_of(alloc, access)?,
+            core: name_of(alloc, core)?,
+        })
+    }
+}

@@ -1,0 +1,10 @@
+pub mod Overlap
+pub mod Valid
+pub mod Refusal
+pub mod Least
+pub mod Change
+pub mod Owner
+pub mod Far
+pub mod Holder
+pub mod Book
+pub mod Text

@@ -1,0 +1,27 @@
+//! The mapping rules of one generation, with the default mapping rule: a rule book (RFC 7597, RFC 7599).
+//! Who holds an IPv4 address and port, and which IPv4 address stands behind an IPv6 address.
+#![tactic(auto)]
+
+mod book;
+mod change;
+mod fault;
+mod holder;
+mod laws;
+mod lines;
+mod overlap;
+mod owner;
+mod refusal;
+mod rules;
+mod scan;
+mod view;
+
+pub use book::Book;
+pub use change::Change;
+pub use fault::BookFault;
+pub use holder::one_holder;
+pub use laws::refusals_name_the_least;
+pub use owner::owner_line;
+pub use view::{FarOf, RuleView};
+
+#[cfg(test)]
+mod tests;
