@@ -4,3 +4,4 @@ pub mod Datagram
 pub mod Steps
 pub mod Served
 pub mod ServedHeaders
+pub mod Configured

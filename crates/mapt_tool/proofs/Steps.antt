@@ -157,10 +157,23 @@ stops_after files faults last handed old new First next x (ReadFault file) unfai
 stops_after files faults last handed old new First next x (TooLong file) unfailed done answers = absurd answers
 stops_after files faults last handed old new First next x (SetupRefused cause place) unfailed done answers =
     record { told = refused_after (files old) First next x (SetupRefused cause place) done answers; unfailed = unfailed }
-stops_after files faults last handed old new First next x (CaptureRefused file fault) unfailed done answers = absurd answers
+stops_after files faults last handed old new First next x (CaptureRefused file fault) unfailed done answers =
+    record { told = refused_after (files old) First next x (CaptureRefused file fault) done answers; unfailed = unfailed }
 stops_after files faults last handed old new First next x (NotBuilt file) unfailed done answers =
     record { told = refused_after (files old) First next x (NotBuilt file) done answers; unfailed = unfailed }
 stops_after files faults last handed old new First next x NoMemory unfailed done answers = unfailed
 stops_after files faults last handed old new First next x Done unfailed done answers = absurd answers
 stops_after files faults last handed old new First next x (Usage i) unfailed done answers = absurd answers
 stops_after files faults last handed old new First next x (WriteFault file) unfailed done answers = absurd answers
+
+-- an answer that is determined is one of several
+pub one_answer : {A X : Type 0} (view : X → A) (outcome : Result A Status) (status : Status) → Answers view (Err status) outcome → AnswersOne (λ answer. outcome ≡ answer) (Err status)
+one_answer view outcome (ReadFault file) answers = answers
+one_answer view outcome (TooLong file) answers = answers
+one_answer view outcome (SetupRefused cause place) answers = answers
+one_answer view outcome (CaptureRefused file fault) answers = answers
+one_answer view outcome (NotBuilt file) answers = answers
+one_answer view outcome NoMemory answers = tt
+one_answer view outcome Done answers = answers
+one_answer view outcome (Usage i) answers = answers
+one_answer view outcome (WriteFault file) answers = answers

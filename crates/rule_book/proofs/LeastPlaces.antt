@@ -48,9 +48,9 @@ least-here clash before r rules i apart found =
       clashes = λ d. ap (λ s. clash s (get_or all n d)) (front i d (place d).0) ∙ ap (λ s. clash (get_or before i d) s) (at d) ∙ (place d).1;
       before = subst P (sym (take_at before (r ∷ rules) n refl)) apart;
       earlier = λ k d less same.
-        let first : i < n = (place d).0 in
-        let of_k : clash (get_or all k d) (get_or all n d) ≡ clash (get_or before k d) r = ap (λ s. clash s (get_or all n d)) (front k d (omega arith)) ∙ ap (λ s. clash (get_or before k d) s) (at d) in
-        absurd (false≢true (sym ((place d).2 k less) ∙ sym of_k ∙ same));
+          let first : i < n = (place d).0 in
+          let of_k : clash (get_or all k d) (get_or all n d) ≡ clash (get_or before k d) r = ap (λ s. clash s (get_or all n d)) (front k d (omega arith)) ∙ ap (λ s. clash (get_or before k d) s) (at d) in
+          absurd (false≢true (sym ((place d).2 k less) ∙ sym of_k ∙ same));
     }
 
 least-step : (clash : Rule → Rule → Bool) (before : List Rule) (r : Rule) (rules : List Rule) (i j : ℕ) → Apart clash before → option_or (option_map (λ i. (i, length before)) (position (λ s. clash s r) before)) (pair_after clash (before ++ r ∷ []) rules) ≡ Some (i, j) → (Apart clash (before ++ r ∷ []) → pair_after clash (before ++ r ∷ []) rules ≡ Some (i, j) → IsLeastPair clash (before ++ r ∷ [] ++ rules) i j) → IsLeastPair clash (before ++ r ∷ rules) i j
@@ -194,9 +194,9 @@ overlap4-least rules dmr i j refused =
     elim (or-Some (four rules) (option_or (six rules) (dmr_at rules dmr)) (Overlap4 i j) found) [
       | inl here ↦ from_four rules i j here
       | inr past ↦ elim (or-Some (six rules) (dmr_at rules dmr) (Overlap4 i j) past.1) [
-          | inl other ↦ (let kind = six-kind rules (Overlap4 i j) other in absurd (four≢six i j kind.0 kind.1 (sym kind.2)))
-          | inr other ↦ (let kind = dmr-kind rules dmr (Overlap4 i j) other.1 in absurd (four≢dmr i j kind.0 (sym kind.1)))
-        ]
+        | inl other ↦ (let kind = six-kind rules (Overlap4 i j) other in absurd (four≢six i j kind.0 kind.1 (sym kind.2)))
+        | inr other ↦ (let kind = dmr-kind rules dmr (Overlap4 i j) other.1 in absurd (four≢dmr i j kind.0 (sym kind.1)))
+      ]
     ]
 
 pub overlap6-least : (rules : List Rule) (dmr : Dmr) (i j : ℕ) → refusal_of rules dmr ≡ Some (Overlap6 i j) → IsLeastPair clash6 rules i j
@@ -205,9 +205,9 @@ overlap6-least rules dmr i j refused =
     elim (or-Some (four rules) (option_or (six rules) (dmr_at rules dmr)) (Overlap6 i j) found) [
       | inl other ↦ (let kind = four-kind rules (Overlap6 i j) other in absurd (four≢six kind.0 kind.1 i j kind.2))
       | inr past ↦ elim (or-Some (six rules) (dmr_at rules dmr) (Overlap6 i j) past.1) [
-          | inl here ↦ from_six rules i j here
-          | inr other ↦ (let kind = dmr-kind rules dmr (Overlap6 i j) other.1 in absurd (six≢dmr i j kind.0 (sym kind.1)))
-        ]
+        | inl here ↦ from_six rules i j here
+        | inr other ↦ (let kind = dmr-kind rules dmr (Overlap6 i j) other.1 in absurd (six≢dmr i j kind.0 (sym kind.1)))
+      ]
     ]
 
 pub overlap_dmr-least : (rules : List Rule) (dmr : Dmr) (i : ℕ) → refusal_of rules dmr ≡ Some (OverlapDmr i) → IsFirstInDmr dmr rules i
@@ -216,9 +216,9 @@ overlap_dmr-least rules dmr i refused =
     elim (or-Some (four rules) (option_or (six rules) (dmr_at rules dmr)) (OverlapDmr i) found) [
       | inl other ↦ (let kind = four-kind rules (OverlapDmr i) other in absurd (four≢dmr kind.0 kind.1 i kind.2))
       | inr past ↦ elim (or-Some (six rules) (dmr_at rules dmr) (OverlapDmr i) past.1) [
-          | inl other ↦ (let kind = six-kind rules (OverlapDmr i) other in absurd (six≢dmr kind.0 kind.1 i kind.2))
-          | inr here ↦ from_dmr rules dmr i here.1
-        ]
+        | inl other ↦ (let kind = six-kind rules (OverlapDmr i) other in absurd (six≢dmr kind.0 kind.1 i kind.2))
+        | inr here ↦ from_dmr rules dmr i here.1
+      ]
     ]
 
 -- valid rules aren't refused

@@ -117,6 +117,7 @@ psid_of-member a (suc k) v x small member = grind (arith, nat_tests)
 
 -- the rule gives its holder's own address for the holder's address and ports
 ce6-holder : (r : Rule) (prefix : Prefix6) (port : ℕ) → in_set r.offset (psid_len r) (edge_psid r prefix.bits) port ≡ true → ce6_of r (edge_address r prefix.bits) port ≡ Some (rule_address r (edge_address r prefix.bits) (edge_psid r prefix.bits))
+unfolding ce6_of
 ce6-holder r prefix port member =
     let v : psid_of r.offset (psid_len r) port ≡ edge_psid r prefix.bits = psid_of-member r.offset (psid_len r) (edge_psid r prefix.bits) port (psid-small r prefix.bits) member in
     let inside : has_addr4 (edge_address r prefix.bits) r ≡ true = address-inside r prefix.bits in
@@ -128,6 +129,7 @@ test_false true never = absurd (never refl)
 test_false false never = refl
 
 ce6-outside : (s : Rule) (addr port : ℕ) → ¬ (has_addr4 addr s ≡ true) → ce6_of s addr port ≡ None
+unfolding ce6_of
 ce6-outside s addr port outside =
     ap (λ b. if b && in_set s.offset (psid_len s) (psid_of s.offset (psid_len s) port) port then Some (rule_address s addr (psid_of s.offset (psid_len s) port)) else None) (test_false (has_addr4 addr s) outside)
 
@@ -180,15 +182,18 @@ held-at rules prefix addr port holds =
     let Fits : Holder → Type 0 = λ h. (h.addr ≡ addr) × IsTrue (in_set h.offset h.psid_length h.psid port) in
     let found : (h : Holder) × (holder_of rules prefix ≡ Some h) × Fits h = held (holder_of rules prefix) Fits holds in
     let place : (j : ℕ) × (r : Rule) × GivesAt (has_edge prefix) (λ r. holder_under r prefix) rules found.0 j r = first_of-place (has_edge prefix) (λ r. holder_under r prefix) rules found.0 (holder_of-first rules prefix ∙ found.1) in
-    let fits : Fits (holder_under place.1 prefix) = subst Fits (sym place.2.gives) found.2 in
-    (place.0, place.1, record {
-      within = place.2.within;
-      at = place.2.at;
-      edge = has_edge-is place.1 prefix place.2.passes;
-      is = found.1 ∙ ap (λ h. Some h) (sym place.2.gives);
-      address = fits.0;
-      member = fits.1;
-    })
+    let fits : Fits (holder_under place.1 prefix) = subst Fits (sym place.2.gives) found.2 in (
+      place.0,
+      place.1,
+      record {
+        within = place.2.within;
+        at = place.2.at;
+        edge = has_edge-is place.1 prefix place.2.passes;
+        is = found.1 ∙ ap (λ h. Some h) (sym place.2.gives);
+        address = fits.0;
+        member = fits.1;
+      },
+    )
 
 has-address : (rules : List Rule) (prefix : Prefix6) (addr port j : ℕ) (r : Rule) → HeldAt rules prefix addr port j r → has_addr4 addr r ≡ true
 has-address rules prefix addr port j r at = ap (λ a. has_addr4 a r) (sym at.address) ∙ address-inside r prefix.bits

@@ -58,11 +58,7 @@ fn missing(rules: &[Rule], prefix: &Prefix6) -> Option<BookFault>
 }
 
 /// The rules after the change.
-pub(crate) fn rules_after(
-    alloc: Global,
-    rules: &[Rule],
-    change: &Change,
-) -> Result<Rules, NoMemory>
+pub(crate) fn rules_after(alloc: Global, rules: &[Rule], change: &Change) -> Result<Rules, NoMemory>
     ensures { IfOk result (λ after. after ≡ rules_after change.now rules.now) }
 {
     let mut after = Rules::of(alloc, rules)?;
