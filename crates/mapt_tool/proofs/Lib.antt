@@ -5,3 +5,4 @@ pub mod Steps
 pub mod Served
 pub mod ServedHeaders
 pub mod Configured
+pub mod Trials

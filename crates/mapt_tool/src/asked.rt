@@ -2,6 +2,8 @@
 
 ghost use Rattle.std.specs.Prelude.{◌≡◌, ◌≤◌, map, IfOk, IfErr, OnOk, Ok};
 ghost use Rattle.mapt_tool.specs.Asked.{is_setup, configured, says, rules_said, owner_said, rules_outcome, owner_outcome};
+ghost use Rattle.rule_book.specs.Book.{rules_of};
+ghost use Rattle.rule_book.specs.Text.{owner_text};
 ghost use Rattle.mapt_tool.specs.Planning.{Tells, Stops, Answers, AnswersOne};
 
 use crate::plan::Plan;
@@ -10,7 +12,7 @@ use crate::status::{Status, status_of};
 use mapt_setup::{EdgeLine, Setup};
 use octets::{Addr4, Bytes, NoMemory, Prefix6};
 use outside::{FileId, Folder};
-use rule_book::owner_line;
+use rule_book::{Book, owner_line};
 use std::alloc::Global;
 
 /// The setup of these octets.
@@ -84,6 +86,21 @@ fn names_of(alloc: Global, edges: &[EdgeLine]) -> Result<Vec<Bytes>, NoMemory>
     Ok(names)
 }
 
+/// The line of the owner of an IPv4 address and port.
+fn line_of(
+    alloc: Global,
+    setup: &Setup,
+    book: &Book,
+    addr: Addr4,
+    port: u16,
+) -> Result<Bytes, NoMemory>
+    ensures { IfOk result (λ line. line ≡ owner_text (rules_of book.now) (map (λ e. e.prefix) setup.now.edges) (map (λ e. e.name) setup.now.edges) addr.0 port) }
+{
+    let prefixes = prefixes_of(alloc, setup.edges.as_slice())?;
+    let names = names_of(alloc, setup.edges.as_slice())?;
+    Ok(owner_line(alloc, book, &prefixes, &names, addr, port)?)
+}
+
 /// What is said of the owner of an IPv4 address and port.
 fn owner_said(
     alloc: Global,
@@ -98,9 +115,7 @@ fn owner_said(
         Ok(book) => book,
         Err(fault) => return Err(status_of(fault)),
     };
-    let prefixes = prefixes_of(alloc, setup.edges.as_slice())?;
-    let names = names_of(alloc, setup.edges.as_slice())?;
-    let line = owner_line(alloc, &book, &prefixes, &names, addr, port)?;
+    let line = line_of(alloc, setup, &book, addr, port)?;
     Ok(saying(alloc, line.as_slice())?)
 }
 
