@@ -2,6 +2,7 @@
 
 use byteorder::{BigEndian, ByteOrder};
 use inet_sum::{check_of, sum};
+use mapt_setup::SetupCause;
 use mapt_tool::{Status, mapt, mapt_plain};
 use outside::{
     FileId, Folder, FreeGate, MemFolder, MemSink, RealFolder, Sink, SureFolder, SureSink,
@@ -124,10 +125,83 @@ fn a_homes_packets_are_replayed(rt: HostRuntime) -> Result<(), Fail> {
     Ok(())
 }
 
+/// Whether these words, with this configuration, end so and print this text, by both top calls.
+fn prints(
+    rt: &HostRuntime,
+    config: &[u8],
+    words: &[&str],
+    status: Status,
+    text: &[u8],
+) -> Result<bool, Fail> {
+    let alloc = rt.alloc();
+    let words = words_of(alloc, words)?;
+    let mut folder = folder_of(alloc, config, b"")?;
+    let mut plain = SureSink::new(alloc);
+    let mut out = SureSink::new(alloc);
+    Ok(
+        mapt_plain(alloc, &words, &mut folder, &mut plain) == status
+            && mapt(rt, alloc, &words, &mut folder, &mut out, &FreeGate::new()) == status
+            && plain.as_slice() == text
+            && out.as_slice() == text,
+    )
+}
+
+#[test]
+fn a_home_is_printed(rt: HostRuntime) -> Result<(), Fail> {
+    let owner = ["owner", "home.toml", "0", "192.0.2.18"];
+    let [verb, file, generation, addr] = owner;
+    let lines =
+        b"dmr 2001:db8:ffff::/64\nrule 2001:db8::/40 192.0.2.0/24 ea 16 offset 6 forward 0\n";
+    assert!(rt;
+        prints(
+            &rt,
+            CONFIG,
+            &["rules", "home.toml", "0"],
+            Status::Done,
+            lines
+        )?
+    );
+    let rows: [(&str, &[u8]); 3] = [
+        ("1023", b"none\n"),
+        (
+            "1232",
+            b"2001:db8:12:3400:0:c000:212:34 psid 52 edge home\n",
+        ),
+        ("1236", b"2001:db8:12:3500:0:c000:212:35 psid 53 edge -\n"),
+    ];
+    for (port, line) in rows {
+        assert!(rt;
+            prints(
+                &rt,
+                CONFIG,
+                &[verb, file, generation, addr, port],
+                Status::Done,
+                line
+            )?
+        );
+    }
+    Ok(())
+}
+
+#[test]
+fn configurations_that_are_refused(rt: HostRuntime) -> Result<(), Fail> {
+    let alloc = rt.alloc();
+    let mut config = Vec::from_slice(alloc, CONFIG)?;
+    let rule =
+        b"[[rule]]\nprefix6 = \"2001:db8:100::/40\"\nprefix4 = \"192.0.2.128/25\"\nea = 16\n";
+    config.extend_from_slice(rule)?;
+    let words = ["rules", "home.toml", "0"];
+    let overlap = Status::SetupRefused(SetupCause::Overlap4, 1);
+    assert!(rt; prints(&rt, &config, &words, overlap, b"")?);
+    let none = Status::SetupRefused(SetupCause::NoGeneration, 1);
+    assert!(rt; prints(&rt, CONFIG, &["rules", "home.toml", "1"], none, b"")?);
+    Ok(())
+}
+
 #[test]
 fn words_that_are_no_form(rt: HostRuntime) -> Result<(), Fail> {
     let alloc = rt.alloc();
-    let cases: [(&[&str], u32); 7] = [
+    let cases: [(&[&str], u32); 10] = [
         (&[], 0),
         (&["--help"], 0),
         (&["Replay", "home.toml", "out-"], 0),
@@ -135,6 +209,9 @@ fn words_that_are_no_form(rt: HostRuntime) -> Result<(), Fail> {
         (&["replay", "", "out-"], 1),
         (&["replay", "home.toml"], 2),
         (&["replay", "home.toml", "out-", "17"], 3),
+        (&["rules", "home.toml", "65"], 2),
+        (&["owner", "home.toml", "0", "192.0.2.300", "5"], 3),
+        (&["owner", "home.toml", "0", "192.0.2.18", "05"], 4),
     ];
     for (words, number) in cases {
         let words = words_of(alloc, words)?;
@@ -317,7 +394,10 @@ fn real_files_are_read_again(rt: HostRuntime) -> Result<(), Fail> {
 fn fault_lines(rt: HostRuntime) -> Result<(), Fail> {
     let alloc = rt.alloc();
     let cases = [
-        (Status::Usage(0), "usage: mapt replay C P [Usage(0)]"),
+        (
+            Status::Usage(0),
+            "usage: mapt replay C P, mapt rules C G or mapt owner C G A X [Usage(0)]",
+        ),
         (
             Status::NotBuilt(FileId::InLan(0)),
             "the LAN capture of edge 0 is of a form that is not served yet [NotBuilt(InLan(0))]",

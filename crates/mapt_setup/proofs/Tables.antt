@@ -50,12 +50,12 @@ read-push seen Is vs xs i v x within there all here =
 pub first_bad : {V D A : Type 0} (seen : V → D) (Is : D → A → Type 0) (Bad : D → Type 0) (vs : List V) (xs : List A) (i : ℕ) (v : V)
     → i < length vs → v ≡ get_or vs i v → AllZip Is (map seen (take i vs)) xs → Bad (seen v) → IsFirstBad Is Bad (map seen vs) i
 first_bad seen Is Bad vs xs i v within there all here = record {
-    values = xs;
-    before = rw (take-map seen i vs) all;
-    element = seen v;
-    there = slice_get-map seen vs i ∙ ap (option_map seen) (slice_get_read vs (length vs) i v refl within there);
-    bad = here;
-  }
+  values = xs;
+  before = rw (take-map seen i vs) all;
+  element = seen v;
+  there = slice_get-map seen vs i ∙ ap (option_map seen) (slice_get_read vs (length vs) i v refl within there);
+  bad = here;
+}
 
 pub map-same : {A : Type 0} (xs : List A) → map (λ (x : A). x) xs ≡ xs
 map-same [] = refl

@@ -3,8 +3,8 @@ ghost use Rattle.toml.specs.View.{view};
 ghost use Rattle.mapt_setup.specs.Answer.{Gives, HasNone, each};
 
 use crate::domain::name_of;
-use crate::keys::{has_only, optional_text_at};
 use crate::edge_name::name_at;
+use crate::keys::{has_only, optional_text_at};
 use crate::spelled::{addr4_at, prefix6_at};
 use crate::{SetupCause, SetupFault};
 use octets::{Addr4, Bytes, Name, NoMemory, Prefix6};

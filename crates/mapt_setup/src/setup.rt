@@ -2,13 +2,12 @@ ghost use Rattle.std.specs.Prelude.{◌≡◌, false};
 ghost use Rattle.toml.specs.View.{table_view};
 ghost use Rattle.mapt_setup.specs.Answer.{Gives, exactly};
 
-use crate::SetupFault;
 use crate::crowd::edge_fault;
 use crate::document::{document, edge_lines, has_too_many, is_unbuilt, rule_lines};
 use crate::domain::Domain;
 use crate::edge::Edges;
 use crate::shapes::{book, shaped};
-use crate::SetupCause;
+use crate::{SetupCause, SetupFault};
 use octets::{Addr4, Mtus, Name};
 use rule_book::Book;
 use std::alloc::Global;
