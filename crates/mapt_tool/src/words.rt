@@ -1,7 +1,6 @@
 ghost use Rattle.std.specs.Prelude.{◌≡◌, ℕ, length, map, ◌≤◌, IfOk, IfErr, IfSome, IfNone, OnErr, Some, None};
 ghost use Rattle.std.specs.Option.{option_map};
 ghost use Rattle.octets.specs.Text4.{addr4_at};
-
 ghost use Rattle.std.specs.String.{string_bytes};
 ghost use Rattle.mapt_tool.specs.Words.{keyword_of, digits_up_to, number_up_to, number_in, address_in, fits, fitting, is_of, usage_number, request_of, seen};
 
@@ -154,9 +153,15 @@ pub fn fitting(form: &[Kind], words: &[String]) -> u32
 #[derive(Clone, Copy, Debug)]
 pub enum Command<'a> {
     /// Replays a configuration, and writes files whose names begin with the prefix.
-    Replay { config: &'a str, prefix: &'a str },
+    Replay {
+        config: &'a str,
+        prefix: &'a str,
+    },
     /// Prints the rules of a generation.
-    Rules { config: &'a str, generation: u32 },
+    Rules {
+        config: &'a str,
+        generation: u32,
+    },
     /// Prints which edge address holds an IPv4 address and port in a generation.
     Owner {
         config: &'a str,

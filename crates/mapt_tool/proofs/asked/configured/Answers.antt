@@ -19,4 +19,4 @@ pub returns-clause-err : goal.returns-clause-err
 returns-clause-err g c =
     let folder = g.F.Folder in
     stops_after folder.files folder.faults folder.last folder.handed c.args.folder.now c.read_text.new.folder (gives (λ m. text_of m Config c.args.config.now)) is_setup c.in-Ok.text c.in-Err-setup_in.status c.in-Ok.ensures.ok_faults c.in-Ok.ensures.ok
-        (subst (λ text. AnswersOne (is_setup text) (Err c.in-Err-setup_in.status)) c.as_slice.ensures c.in-Err-setup_in.ensures)
+    (subst (λ text. AnswersOne (is_setup text) (Err c.in-Err-setup_in.status)) c.as_slice.ensures c.in-Err-setup_in.ensures)
