@@ -178,6 +178,14 @@ fn refused_changes(alloc: Global) -> Option<bool> {
     )
 }
 
+/// The book of generation 2 without the rule with this IPv6 prefix.
+fn removed(alloc: Global, book: &Book, prefix6: Prefix6) -> Option<Book> {
+    if book.generation() != 2 {
+        return None;
+    }
+    book.changed(alloc, &Change::Remove(prefix6)).ok()
+}
+
 /// The book after the home's rule got a companion, was replaced, and was removed.
 fn changed_home(alloc: Global) -> Option<Book> {
     let book = home(alloc)?;
@@ -190,7 +198,7 @@ fn changed_home(alloc: Global) -> Option<Book> {
     if other.rule(0) != Some(b) {
         return None;
     }
-    other.changed(alloc, &Change::Remove(b.prefix6)).ok()
+    removed(alloc, &other, b.prefix6)
 }
 
 #[test]
