@@ -10,7 +10,9 @@ use outside::{
 use pcap_files::{CaptureFault, Writer};
 use std::alloc::Global;
 use std::process::Abort;
+use std::sync::Wait;
 use std::test::Fail;
+use std::thread::Threads;
 
 /// The one configuration that is replayed.
 const CONFIG: &[u8] = b"[domain]
@@ -126,35 +128,32 @@ fn a_homes_packets_are_replayed(rt: HostRuntime) -> Result<(), Fail> {
 }
 
 /// Whether these words, with this configuration, end so and print this text, by both top calls.
-fn prints(
-    rt: &HostRuntime,
+fn prints<R: Threads + Wait + Sync>(
+    rt: &R,
+    alloc: Global,
     config: &[u8],
     words: &[&str],
     status: Status,
     text: &[u8],
 ) -> Result<bool, Fail> {
-    let alloc = rt.alloc();
     let words = words_of(alloc, words)?;
     let mut folder = folder_of(alloc, config, b"")?;
     let mut plain = SureSink::new(alloc);
     let mut out = SureSink::new(alloc);
-    Ok(
-        mapt_plain(alloc, &words, &mut folder, &mut plain) == status
-            && mapt(rt, alloc, &words, &mut folder, &mut out, &FreeGate::new()) == status
-            && plain.as_slice() == text
-            && out.as_slice() == text,
-    )
+    let alone = mapt_plain(alloc, &words, &mut folder, &mut plain);
+    let shared = mapt(rt, alloc, &words, &mut folder, &mut out, &FreeGate::new());
+    let is_same = plain.as_slice() == text && out.as_slice() == text;
+    Ok(alone == status && shared == status && is_same)
 }
 
 #[test]
 fn a_home_is_printed(rt: HostRuntime) -> Result<(), Fail> {
-    let owner = ["owner", "home.toml", "0", "192.0.2.18"];
-    let [verb, file, generation, addr] = owner;
     let lines =
         b"dmr 2001:db8:ffff::/64\nrule 2001:db8::/40 192.0.2.0/24 ea 16 offset 6 forward 0\n";
     assert!(rt;
         prints(
             &rt,
+            rt.alloc(),
             CONFIG,
             &["rules", "home.toml", "0"],
             Status::Done,
@@ -173,8 +172,9 @@ fn a_home_is_printed(rt: HostRuntime) -> Result<(), Fail> {
         assert!(rt;
             prints(
                 &rt,
+                rt.alloc(),
                 CONFIG,
-                &[verb, file, generation, addr, port],
+                &["owner", "home.toml", "0", "192.0.2.18", port],
                 Status::Done,
                 line
             )?
@@ -192,9 +192,18 @@ fn configurations_that_are_refused(rt: HostRuntime) -> Result<(), Fail> {
     config.extend_from_slice(rule)?;
     let words = ["rules", "home.toml", "0"];
     let overlap = Status::SetupRefused(SetupCause::Overlap4, 1);
-    assert!(rt; prints(&rt, &config, &words, overlap, b"")?);
+    assert!(rt; prints(&rt, rt.alloc(), &config, &words, overlap, b"")?);
     let none = Status::SetupRefused(SetupCause::NoGeneration, 1);
-    assert!(rt; prints(&rt, CONFIG, &["rules", "home.toml", "1"], none, b"")?);
+    assert!(rt;
+        prints(
+            &rt,
+            rt.alloc(),
+            CONFIG,
+            &["rules", "home.toml", "1"],
+            none,
+            b""
+        )?
+    );
     Ok(())
 }
 
