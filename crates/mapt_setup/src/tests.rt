@@ -33,6 +33,10 @@ const CROWDED: &str =
 const EDGE_OVER_DMR: &str =
     "[[edge]]\nname = \"roof\"\nprefix = \"2001:db8:ffff::/56\"\nlan = \"192.168.1.1\"\n";
 
+/// Two edges of one name.
+const TWINS: &str =
+    "[[edge]]\nname = \"home\"\nprefix = \"2001:db8:12:3400::/56\"\nlan = \"192.168.1.1\"\n\n[[edge]]\nname = \"home\"\nprefix = \"2001:db8:12:3600::/56\"\nlan = \"192.168.1.1\"\n";
+
 /// Whether the text of these parts is refused for this cause at this place.
 fn is_refused(
     alloc: Global,
@@ -165,13 +169,78 @@ fn edges_that_are_none(rt: HostRuntime) -> Result<(), Fail> {
     Ok(())
 }
 
-/// A configuration with two faults is refused for the one whose cause comes first.
+/// A text of so many tables of a kind.
+fn many(alloc: Global, table: &str, count: u32) -> Result<String, AllocError> {
+    let mut text = String::new(alloc);
+    for _i in 0..count {
+        text.push_str(table)?;
+    }
+    Ok(text)
+}
+
+/// A configuration with two faults is refused for the one whose cause comes first, here and below.
 #[test]
-fn the_earlier_cause_is_told(rt: HostRuntime) -> Result<(), Fail> {
+fn the_earlier_cause_of_rules_is_told(rt: HostRuntime) -> Result<(), Fail> {
     let alloc = rt.alloc();
+    let bad_rule_and_edge = "[[rule]]\n[[edge]]\n";
+    let shapeless_twin =
+        "[[rule]]\nprefix6 = \"2001:db8::/40\"\nprefix4 = \"192.0.2.0/24\"\nea = 33\n";
+    let over_all = "[[rule]]\nprefix6 = \"2001:db8::/32\"\nprefix4 = \"198.51.100.0/24\"\nea = 8\n";
+    assert!(rt; is_refused(alloc, "forward = 1\n", "[", "", SetupCause::NotToml, 0)?);
+    assert!(rt;
+        is_refused(
+            alloc,
+            "domain = 1\n",
+            "rule = 1\n",
+            "",
+            SetupCause::BadDomain,
+            0
+        )?
+    );
+    assert!(rt; are_refused(alloc, RULE, &[bad_rule_and_edge], SetupCause::BadRule, 1)?);
     assert!(rt; are_refused(alloc, SHAPELESS, &["[[edge]]\n"], SetupCause::BadEdge, 0)?);
-    assert!(rt; are_refused(alloc, OVER_DMR, &[OVER_DMR], SetupCause::Overlap4, 1)?);
+    assert!(rt; are_refused(alloc, RULE, &[shapeless_twin], SetupCause::RuleShape, 1)?);
+    assert!(rt; are_refused(alloc, RULE, &[RULE], SetupCause::Overlap4, 1)?);
+    assert!(rt; are_refused(alloc, SAME6, &[over_all], SetupCause::Overlap6, 1)?);
+    Ok(())
+}
+
+#[test]
+fn the_earlier_cause_of_edges_is_told(rt: HostRuntime) -> Result<(), Fail> {
+    let alloc = rt.alloc();
+    let long =
+        "[[edge]]\nname = \"long\"\nprefix = \"2001:db8:12:3700::/65\"\nlan = \"192.168.1.1\"\n";
     assert!(rt; are_refused(alloc, OVER_DMR, &[EDGE_OVER_DMR], SetupCause::OverlapDmr, 0)?);
-    assert!(rt; are_refused(alloc, EDGE_OVER_DMR, &[CROWDED], SetupCause::EdgeOverDmr, 0)?);
+    assert!(rt; are_refused(alloc, OVER_DMR, &[TWINS], SetupCause::OverlapDmr, 0)?);
+    assert!(rt; are_refused(alloc, CROWDED, &[TWINS], SetupCause::EdgeName, 2)?);
+    assert!(rt; are_refused(alloc, EDGE_OVER_DMR, &[long], SetupCause::EdgeOverlap, 1)?);
+    Ok(())
+}
+
+#[test]
+fn too_many_tables_are_told(rt: HostRuntime) -> Result<(), Fail> {
+    let alloc = rt.alloc();
+    let edges = many(alloc, EDGE, 257)?;
+    let rules = many(alloc, RULE, 257)?;
+    assert!(rt;
+        is_refused(
+            alloc,
+            "other = 1\n",
+            edges.as_str(),
+            "",
+            SetupCause::TooMany,
+            0
+        )?
+    );
+    assert!(rt;
+        is_refused(
+            alloc,
+            "other = 1\n",
+            rules.as_str(),
+            "",
+            SetupCause::TooMany,
+            0
+        )?
+    );
     Ok(())
 }
