@@ -386,7 +386,7 @@ fn calls_that_fail(rt: HostRuntime) -> Result<(), Fail> {
 #[test]
 fn real_files_are_read_again(rt: HostRuntime) -> Result<(), Fail> {
     let alloc = rt.alloc();
-    let name = "/tmp/mapt-real-folder-test";
+    let name = "real-folder-test";
     let mut folder = RealFolder::new(&rt);
     assert!(rt;
         folder
