@@ -118,7 +118,7 @@ impl Edges {
     ghost use Rattle.mapt_setup.specs.Edge.{IsEdge};
 
     /// What each table says, or the first where a key isn't as it should be.
-    pub fn read(alloc: Global, values: &[Value]) -> Result<Edges, SetupFault>
+    pub(crate) fn read(alloc: Global, values: &[Value]) -> Result<Edges, SetupFault>
         requires { length values.now ≤ 256 }
         ensures few { IfOk result (λ edges. length edges ≤ 256) }
         ensures exact { Gives (λ edges. edges) result (each SetupCause.BadEdge IsEdge (HasNone IsEdge) (map view values.now)) }

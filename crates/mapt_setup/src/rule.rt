@@ -50,7 +50,7 @@ impl RuleLine {
     }
 
     /// What each table says, or the first where a key isn't as it should be.
-    pub fn read(alloc: Global, values: &[Value]) -> Result<Vec<RuleLine>, SetupFault>
+    pub(crate) fn read(alloc: Global, values: &[Value]) -> Result<Vec<RuleLine>, SetupFault>
         requires { length values.now ≤ 256 }
         ensures few { IfOk result (λ lines. length lines.items ≤ 256) }
         ensures exact { Gives (λ lines. lines.items) result (each SetupCause.BadRule IsRule (HasNone IsRule) (map view values.now)) }

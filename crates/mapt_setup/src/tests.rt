@@ -37,6 +37,23 @@ const EDGE_OVER_DMR: &str =
 const TWINS: &str =
     "[[edge]]\nname = \"home\"\nprefix = \"2001:db8:12:3400::/56\"\nlan = \"192.168.1.1\"\n\n[[edge]]\nname = \"home\"\nprefix = \"2001:db8:12:3600::/56\"\nlan = \"192.168.1.1\"\n";
 
+/// Whether the text of these parts is answered with this fault.
+fn has_fault(
+    alloc: Global,
+    first: &str,
+    second: &str,
+    third: &str,
+    fault: SetupFault,
+) -> Result<bool, AllocError> {
+    let mut text = String::from_str(alloc, first)?;
+    text.push_str(second)?;
+    text.push_str(third)?;
+    Ok(match Setup::read(alloc, text.as_bytes()) {
+        Err(told) => told == fault,
+        Ok(_) => false,
+    })
+}
+
 /// Whether the text of these parts is refused for this cause at this place.
 fn is_refused(
     alloc: Global,
@@ -46,13 +63,13 @@ fn is_refused(
     cause: SetupCause,
     place: u32,
 ) -> Result<bool, AllocError> {
-    let mut text = String::from_str(alloc, first)?;
-    text.push_str(second)?;
-    text.push_str(third)?;
-    Ok(match Setup::read(alloc, text.as_bytes()) {
-        Err(fault) => fault == SetupFault::Refused(cause, place),
-        Ok(_) => false,
-    })
+    has_fault(
+        alloc,
+        first,
+        second,
+        third,
+        SetupFault::Refused(cause, place),
+    )
 }
 
 /// Whether each of these parts after the domain and a first part is refused for this cause at this place.
@@ -242,5 +259,7 @@ fn too_many_tables_are_told(rt: HostRuntime) -> Result<(), Fail> {
             0
         )?
     );
+    let forward = "forward = 1\n";
+    assert!(rt; has_fault(alloc, forward, rules.as_str(), "", SetupFault::NotBuilt)?);
     Ok(())
 }

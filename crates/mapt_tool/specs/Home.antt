@@ -29,6 +29,12 @@ far_address addr = record { 0 = embedded (0x20010db8ffff * 2 ^ 80) 64 addr }
 abbrev pub outside_port : ℕ → ℕ
 outside_port inside = if is_claimable 6 8 0x34 inside then inside else 1232
 
+-- the packet that octets begin with, by the total length that its header declares. What stands behind it is
+-- padding of the frame, and no part of the packet (RFC 894). Octets that are too few for a header are left as
+-- they are.
+abbrev pub packet_in : List ℕ → List ℕ
+packet_in octets = if nat_le 20 (length octets) then take (word octets 2) octets else octets
+
 -- The packets that are served are whole UDP packets over IPv4 without options. They have 28 to 1480 octets,
 abbrev pub is_sized : List ℕ → Bool
 is_sized packet = nat_le 28 (length packet) && nat_le (length packet) 1480

@@ -14,7 +14,7 @@ use Rattle.mapt_tool.specs.declared.plan.FileWrite.{FileWrite}
 use Rattle.mapt_tool.specs.declared.status.Status.{Status}
 use Rattle.mapt_tool.specs.declared.status.Status.TheVariants.{CaptureRefused, TooLong, NotBuilt}
 use Rattle.mapt_tool.specs.declared.config.TheConstants.{HOME_CONFIG, HOME_LAN, ACCESS_SUFFIX}
-use Rattle.mapt_tool.specs.Home.{is_served, outward}
+use Rattle.mapt_tool.specs.Home.{packet_in, is_served, outward}
 use Rattle.mapt_tool.specs.Limits.{file_limit, record_limit}
 use Rattle.mapt_tool.specs.Planned.{Planned}
 
@@ -37,6 +37,10 @@ abbrev pub times_from : ℕ → List Record → Bool
 times_from last [] = true
 times_from last (r ∷ rs) = nat_le last r.time && times_from r.time rs
 
+-- a record's packet, without padding
+abbrev pub packet_of : Record → List ℕ
+packet_of r = packet_in r.bytes
+
 -- both packets come from one address and port
 abbrev pub same_source : List ℕ → List ℕ → Bool
 same_source packet other = quad packet 12 == quad other 12 && word packet 20 == word other 20
@@ -44,12 +48,12 @@ same_source packet other = quad packet 12 == quad other 12 && word packet 20 == 
 -- all packets come from the source of the first
 abbrev pub have_one_source : List Record → Bool
 have_one_source [] = true
-have_one_source (first ∷ others) = list_all (λ r. same_source first.bytes r.bytes) others
+have_one_source (first ∷ others) = list_all (λ r. same_source (packet_of first) (packet_of r)) others
 
 -- the records of one host that are replayed
 abbrev pub are_served : List Record → Bool
 are_served records =
-    list_all (λ r. is_served r.bytes) records && (times_from 0 records && have_one_source records)
+    list_all (λ r. is_served (packet_of r)) records && (times_from 0 records && have_one_source records)
 
 -- a fault of a capture, and else its records
 abbrev pub or_refused : FileId → Result (List Record) CaptureFault → Result (List Record) Status
@@ -65,7 +69,7 @@ lan_records octets = or_refused (InLan 0) (capture record_limit octets) >>= serv
 
 -- each packet as it is on the access network, with its record's time
 abbrev pub outward_record : Record → Record
-outward_record r = record { time = r.time; bytes = outward r.bytes }
+outward_record r = record { time = r.time; bytes = outward (packet_of r) }
 
 -- the capture of the access network
 abbrev pub access_file : List ℕ → List Record → FileWrite

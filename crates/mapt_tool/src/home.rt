@@ -1,5 +1,5 @@
 ghost use Rattle.std.specs.Prelude.{◌≡◌, ◌↔◌, IsTrue, IsSome, IfSome, IfOk, length, drop, ◌≤◌, ◌+◌, ◌^◌};
-ghost use Rattle.mapt_tool.specs.Home.{home_address, far_address, outside_port, is_home_head, is_filled, is_served, IsServed, AreHeaders, address_sum, sum_before, sum_after, sum_of, datagram_of, outward, Stands};
+ghost use Rattle.mapt_tool.specs.Home.{packet_in, home_address, far_address, outside_port, is_home_head, is_filled, is_served, IsServed, AreHeaders, address_sum, sum_before, sum_after, sum_of, datagram_of, outward, Stands};
 ghost use Rattle.octets.specs.Field.{word};
 ghost use Rattle.inet_sum.specs.Sum.{as_udp};
 
@@ -60,6 +60,22 @@ fn outside_port(inside: u16) -> u16
     } else {
         LEAST_PORT
     }
+}
+
+/// The packet that the octets begin with, by the total length that its header declares. What stands behind it
+/// is padding of the frame, and no part of the packet (RFC 894). Octets that are too few for a header are left
+/// as they are.
+pub fn packet_in(octets: &[u8]) -> &[u8]
+    ensures { result.now ≡ packet_in octets.now }
+{
+    if octets.len() < usize::from(HEADER_LEN) {
+        return octets;
+    }
+    let total = usize::from(BigEndian::read_u16(&octets[2..]));
+    if octets.len() < total {
+        return octets;
+    }
+    &octets[..total]
 }
 
 /// The headers of a packet, as they are read.

@@ -3,10 +3,10 @@ ghost use Rattle.std.specs.List.{list_all};
 ghost use Rattle.pcap_files.specs.Written.{written, IsWritable};
 ghost use Rattle.mapt_tool.specs.Home.{is_served, Stands};
 ghost use Rattle.mapt_tool.specs.Planning.{Tells, gives, Stops, Answers};
-ghost use Rattle.mapt_tool.specs.Outcome.{times_from, same_source, have_one_source, are_served, outward_record, access_file, home_only, lan_records, planned_of, with_lan, replayed};
+ghost use Rattle.mapt_tool.specs.Outcome.{packet_of, times_from, same_source, have_one_source, are_served, outward_record, access_file, home_only, lan_records, planned_of, with_lan, replayed};
 
 use crate::config::{ACCESS_SUFFIX, HOME_CONFIG, HOME_LAN};
-use crate::home::{is_served, outward};
+use crate::home::{is_served, outward, packet_in};
 use crate::plan::{FileWrite, Plan};
 use crate::reading::{FILE_LIMIT, read_text};
 use crate::status::Status;
@@ -33,6 +33,13 @@ fn times_rise(records: &[Record]) -> bool
     true
 }
 
+/// The packet of a record, without padding.
+fn packet_of(captured: &Record) -> &[u8]
+    ensures { result.now ≡ packet_of captured.now }
+{
+    packet_in(captured.bytes.as_slice())
+}
+
 /// Whether both packets come from one address and port.
 fn same_source(packet: &[u8], other: &[u8]) -> bool
     requires packet { Stands packet.now }
@@ -46,10 +53,10 @@ fn same_source(packet: &[u8], other: &[u8]) -> bool
 
 /// Whether each packet is served.
 fn all_served(records: &[Record]) -> bool
-    ensures { result ≡ list_all (λ r. is_served r.bytes) records.now }
+    ensures { result ≡ list_all (λ r. is_served (packet_of r)) records.now }
 {
     for record in records {
-        if !is_served(record.bytes.as_slice()) {
+        if !is_served(packet_of(record)) {
             return false;
         }
     }
@@ -58,14 +65,14 @@ fn all_served(records: &[Record]) -> bool
 
 /// Whether all packets come from the source of the first.
 fn have_one_source(records: &[Record]) -> bool
-    requires { All (λ r. Stands r.bytes) records.now }
+    requires { All (λ r. Stands (packet_of r)) records.now }
     ensures { result ≡ have_one_source records.now }
 {
     let [first, others @ ..] = records else {
         return true;
     };
     for other in others {
-        if !same_source(first.bytes.as_slice(), other.bytes.as_slice()) {
+        if !same_source(packet_of(first), packet_of(other)) {
             return false;
         }
     }
@@ -75,7 +82,7 @@ fn have_one_source(records: &[Record]) -> bool
 /// Whether the records are those of one host, as they are replayed.
 fn are_served(records: &[Record]) -> bool
     ensures value { result ≡ are_served records.now }
-    ensures stand { IsTrue result → All (λ r. Stands r.bytes) records.now }
+    ensures stand { IsTrue result → All (λ r. Stands (packet_of r)) records.now }
 {
     if !all_served(records) {
         return false;
@@ -88,7 +95,7 @@ fn are_served(records: &[Record]) -> bool
 fn served_records(alloc: Global, octets: &[u8]) -> Result<Records, Status>
     requires { length octets.now ≤ FILE_LIMIT }
     ensures records { Answers (λ r. r) result (lan_records octets.now) }
-    ensures stand { IfOk result (All (λ r. Stands r.bytes)) }
+    ensures stand { IfOk result (All (λ r. Stands (packet_of r))) }
     ensures writable { IfOk result (All IsWritable) }
 {
     let records = match pcap_files::read(alloc, octets, RECORD_LIMIT) {
@@ -104,13 +111,13 @@ fn served_records(alloc: Global, octets: &[u8]) -> Result<Records, Status>
 
 /// The capture of the access network: each packet as it is there, with its record's time.
 fn access_capture(alloc: Global, records: &[Record]) -> Result<Writer, NoMemory>
-    requires stand { All (λ r. Stands r.bytes) records.now }
+    requires stand { All (λ r. Stands (packet_of r)) records.now }
     requires writable { All IsWritable records.now }
     ensures { IfOk result (λ w. w ≡ written (map outward_record records.now)) }
 {
     let mut writer = Writer::new(alloc)?;
     for record in records {
-        let packet = outward(alloc, record.bytes.as_slice())?;
+        let packet = outward(alloc, packet_of(record))?;
         writer.add(record.time, packet.as_slice())?;
     }
     Ok(writer)
@@ -127,7 +134,7 @@ fn name_of(alloc: Global, prefix: &str, suffix: &str) -> Result<Name, NoMemory>
 
 /// The capture of the access network as a file.
 fn access_file(alloc: Global, prefix: &str, records: &[Record]) -> Result<FileWrite, NoMemory>
-    requires stand { All (λ r. Stands r.bytes) records.now }
+    requires stand { All (λ r. Stands (packet_of r)) records.now }
     requires writable { All IsWritable records.now }
     ensures { IfOk result (λ file. file ≡ access_file prefix.now records.now) }
 {
