@@ -61,6 +61,24 @@ const OUTWARD_KEPT: [u8; 50] = [
     0x68, 0x69,
 ];
 
+/// An Ethernet capture with the highest octet first, in nanoseconds: the plain packet at 7.000001999 s, behind one
+/// tag and before 16 octets of padding.
+const PADDED: [u8; 104] = [
+    0xa1, 0xb2, 0x3c, 0x4d, 0x00, 0x02, 0x00, 0x04, 0x00, 0x00, 0x00, 0x00, 0x00, 0x00, 0x00, 0x00,
+    0x00, 0x00, 0xff, 0xff, 0x00, 0x00, 0x00, 0x01, 0x00, 0x00, 0x00, 0x07, 0x00, 0x00, 0x07, 0xcf,
+    0x00, 0x00, 0x00, 0x40, 0x00, 0x00, 0x00, 0x40, 0x02, 0x00, 0x00, 0x00, 0x00, 0x01, 0x02, 0x00,
+    0x00, 0x00, 0x00, 0x02, 0x81, 0x00, 0x00, 0x05, 0x08, 0x00, 0x45, 0x00, 0x00, 0x1e, 0x00, 0x01,
+    0x00, 0x00, 0x40, 0x11, 0x8e, 0xe1, 0xc0, 0xa8, 0x01, 0x0a, 0xc6, 0x33, 0x64, 0x07, 0x13, 0x88,
+    0x00, 0x35, 0x00, 0x0a, 0x97, 0xc6, 0x68, 0x69, 0x00, 0x00, 0x00, 0x00, 0x00, 0x00, 0x00, 0x00,
+    0x00, 0x00, 0x00, 0x00, 0x00, 0x00, 0x00, 0x00,
+];
+
+/// The capture without a packet, as it is read and written.
+const EMPTY: [u8; 24] = [
+    0xd4, 0xc3, 0xb2, 0xa1, 0x02, 0x00, 0x04, 0x00, 0x00, 0x00, 0x00, 0x00, 0x00, 0x00, 0x00, 0x00,
+    0x00, 0x00, 0x04, 0x00, 0x65, 0x00, 0x00, 0x00,
+];
+
 /// A capture of these packets, the first at time 0 and each one a second after the one before.
 fn capture_of(rt: &impl Abort, alloc: Global, packets: &[&[u8]]) -> Result<Writer, Fail> {
     let mut writer = Writer::new(alloc)?;
@@ -98,32 +116,49 @@ fn status_of(alloc: Global, config: &[u8], lan: &[u8]) -> Result<Status, Fail> {
     Ok(mapt_plain(alloc, &words, &mut folder, &mut out))
 }
 
+/// Whether both top calls replay this LAN capture, write this access capture, and print nothing.
+fn replays<R: Threads + Wait + Sync>(
+    rt: &R,
+    alloc: Global,
+    lan: &[u8],
+    access: &[u8],
+) -> Result<bool, Fail> {
+    let words = words_of(alloc, &["replay", "home.toml", "out-"])?;
+    let name = "out-access.pcap";
+    let mut plain = folder_of(alloc, CONFIG, lan)?;
+    let mut shared = folder_of(alloc, CONFIG, lan)?;
+    let mut out = SureSink::new(alloc);
+    let alone = mapt_plain(alloc, &words, &mut plain, &mut out);
+    let together = mapt(rt, alloc, &words, &mut shared, &mut out, &FreeGate::new());
+    let is_same = plain.file(name) == Some(access) && shared.file(name) == Some(access);
+    let is_silent = out.as_slice() == b"".as_slice();
+    Ok(alone == Status::Done && together == Status::Done && is_same && is_silent)
+}
+
 #[test]
 fn a_homes_packets_are_replayed(rt: HostRuntime) -> Result<(), Fail> {
     let alloc = rt.alloc();
-    let words = words_of(alloc, &["replay", "home.toml", "out-"])?;
     let lan = capture_of(&rt, alloc, &[&PLAIN, &PLAIN])?;
-    let want = capture_of(&rt, alloc, &[&OUTWARD, &OUTWARD])?;
-
-    let mut folder = folder_of(alloc, CONFIG, lan.as_slice())?;
-    let mut out = SureSink::new(alloc);
-    let status = mapt_plain(alloc, &words, &mut folder, &mut out);
-    assert_eq!(rt; status, Status::Done);
-    assert_eq!(rt; folder.file("out-access.pcap"), Some(want.as_slice()));
-    assert_eq!(rt; out.as_slice(), b"".as_slice());
-
+    let access = capture_of(&rt, alloc, &[&OUTWARD, &OUTWARD])?;
+    assert!(rt; replays(&rt, alloc, lan.as_slice(), access.as_slice())?);
     let lan = capture_of(&rt, alloc, &[&CLAIMABLE])?;
-    let want = capture_of(&rt, alloc, &[&OUTWARD_KEPT])?;
-    let mut folder = folder_of(alloc, CONFIG, lan.as_slice())?;
-    let status = mapt(&rt, alloc, &words, &mut folder, &mut out, &FreeGate::new());
-    assert_eq!(rt; status, Status::Done);
-    assert_eq!(rt; folder.file("out-access.pcap"), Some(want.as_slice()));
+    let access = capture_of(&rt, alloc, &[&OUTWARD_KEPT])?;
+    assert!(rt; replays(&rt, alloc, lan.as_slice(), access.as_slice())?);
+    assert!(rt; replays(&rt, alloc, &EMPTY, &EMPTY)?);
+    Ok(())
+}
 
-    let none = capture_of(&rt, alloc, &[])?;
-    let mut folder = folder_of(alloc, CONFIG, none.as_slice())?;
-    let status = mapt_plain(alloc, &words, &mut folder, &mut out);
-    assert_eq!(rt; status, Status::Done);
-    assert_eq!(rt; folder.file("out-access.pcap"), Some(none.as_slice()));
+#[test]
+fn padding_belongs_to_no_packet(rt: HostRuntime) -> Result<(), Fail> {
+    let alloc = rt.alloc();
+    let mut access = Writer::new(alloc)?;
+    access.add(7_000_001, &OUTWARD)?;
+    assert!(rt; replays(&rt, alloc, &PADDED, access.as_slice())?);
+    // With the type of ARP behind the tag.
+    let mut arp = PADDED;
+    arp[57] = 0x06;
+    let not_built = Status::NotBuilt(FileId::InLan(0));
+    assert_eq!(rt; status_of(alloc, CONFIG, &arp)?, not_built);
     Ok(())
 }
 
@@ -339,6 +374,9 @@ fn files_that_are_refused(rt: HostRuntime) -> Result<(), Fail> {
     let mut longer = Vec::from_slice(alloc, lan)?;
     longer.push(0)?;
     assert!(rt; ends(alloc, CONFIG, &longer, cut_second)?);
+    let mut stray = Vec::from_slice(alloc, &EMPTY)?;
+    stray.extend_from_slice(&[0; 10])?;
+    assert!(rt; ends(alloc, CONFIG, &stray, cut_first)?);
     Ok(())
 }
 
