@@ -2,3 +2,5 @@ pub mod Seen
 pub mod Spellings
 pub mod Tables
 pub mod Stages
+pub mod OneAnswer
+pub mod OneReading

@@ -8,6 +8,7 @@ mod edge;
 mod edge_name;
 mod fault;
 mod keys;
+mod laws;
 mod rule;
 mod setup;
 mod shapes;
@@ -15,6 +16,7 @@ mod spelled;
 
 pub use edge::{EdgeLine, Edges};
 pub use fault::{SetupCause, SetupFault};
+pub use laws::octets_have_one_answer;
 pub use setup::Setup;
 
 #[cfg(test)]

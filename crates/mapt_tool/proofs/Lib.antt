@@ -1,6 +1,7 @@
 pub mod Writes
 pub mod Pieces
 pub mod Datagram
+pub mod OneOutcome
 pub mod Steps
 pub mod Served
 pub mod ServedHeaders

@@ -5,6 +5,7 @@ mod asked;
 mod carrying;
 mod config;
 mod home;
+mod laws;
 mod plan;
 mod reading;
 mod replay;
@@ -12,5 +13,6 @@ mod status;
 mod tool;
 mod words;
 
+pub use laws::commands_have_one_outcome;
 pub use status::Status;
 pub use tool::{mapt, mapt_plain};

@@ -2,6 +2,7 @@ pub mod Cuts
 pub mod Gaps
 pub mod GroupNumbers
 pub mod Numerals
+pub mod OneValue
 pub mod Prefixes
 pub mod Sizes
 pub mod Spelling4

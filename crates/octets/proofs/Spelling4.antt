@@ -5,7 +5,7 @@ use Rattle.std.specs.Char.{digit_value}
 use Rattle.std.proofs.lemmas.Fmt.{decimal_is_IsNumeral}
 use Rattle.octets.specs.Bits.{bits_at}
 use Rattle.octets.specs.Numeral.{◌>>=◌, dot, slash, cut_at, small_decimal_at}
-use Rattle.octets.specs.Text4.{number_of_octets, IsText4, text4, addr4_at}
+use Rattle.octets.specs.Text4.{dotted, number_of_octets, IsText4, text4, addr4_at}
 use Rattle.octets.proofs.Cuts.{Lacks, CutTells, cut_tells, cut_at-append, lacks_cons, lacks_append}
 use Rattle.octets.proofs.Numerals.{some_behind, digit_in, small_again, small_tells}
 
@@ -80,3 +80,16 @@ no_slash4 text n h =
     let third = lacks_cons slash dot (decimal h.third ++ dot ∷ decimal h.fourth) other (lacks_append slash (decimal h.third) (dot ∷ decimal h.fourth) (part h.third h.below.2) last) in
     let second = lacks_cons slash dot (decimal h.second ++ dot ∷ (decimal h.third ++ dot ∷ decimal h.fourth)) other (lacks_append slash (decimal h.second) (dot ∷ (decimal h.third ++ dot ∷ decimal h.fourth)) (part h.second h.below.1) third) in
     subst (λ (xs : List ℕ). Lacks slash xs) (sym h.spelled) (lacks_append slash (decimal h.first) (dot ∷ (decimal h.second ++ dot ∷ (decimal h.third ++ dot ∷ decimal h.fourth))) (part h.first h.below.0) second)
+
+-- and no other text does
+pub one_text4 : (text : List ℕ) (n : ℕ) → IsText4 text n → text ≡ text4 n
+unfolding text4
+one_text4 text n h =
+    let a : h.first ≡ bits_at 32 n 0 8 = omega (arith, h.value, h.below.0, h.below.1, h.below.2, h.below.3) in
+    let b : h.second ≡ bits_at 32 n 8 8 = omega (arith, h.value, h.below.0, h.below.1, h.below.2, h.below.3) in
+    let c : h.third ≡ bits_at 32 n 16 8 = omega (arith, h.value, h.below.0, h.below.1, h.below.2, h.below.3) in
+    let d : h.fourth ≡ bits_at 32 n 24 8 = omega (arith, h.value, h.below.0, h.below.1, h.below.2, h.below.3) in
+    h.spelled ∙ ap (λ (x : ℕ). dotted (decimal x) (decimal h.second) (decimal h.third) (decimal h.fourth)) a
+    ∙ ap (λ (x : ℕ). dotted (decimal (bits_at 32 n 0 8)) (decimal x) (decimal h.third) (decimal h.fourth)) b
+    ∙ ap (λ (x : ℕ). dotted (decimal (bits_at 32 n 0 8)) (decimal (bits_at 32 n 8 8)) (decimal x) (decimal h.fourth)) c
+    ∙ ap (λ (x : ℕ). dotted (decimal (bits_at 32 n 0 8)) (decimal (bits_at 32 n 8 8)) (decimal (bits_at 32 n 16 8)) (decimal x)) d

@@ -1,0 +1,13 @@
+//! What holds of commands beyond one call. The law is the contract of a function that does nothing.
+
+ghost use Rattle.std.specs.Prelude.{◌≡◌, Result};
+ghost use Rattle.outside.specs.Files.{Files};
+ghost use Rattle.mapt_tool.specs.declared.status.Status.{Status as Ending};
+ghost use Rattle.mapt_tool.specs.Ends.{Outcome};
+ghost use Rattle.mapt_tool.specs.Planned.{Planned};
+ghost use Rattle.mapt_tool.specs.Words.{Request};
+
+/// A command has one outcome on given files: what it writes and says, or the status with which it is refused.
+pub fn commands_have_one_outcome()
+    ensures { (request : Request) (files : Files) (one other : Result Planned Ending) → Outcome request files one → Outcome request files other → one ≡ other }
+{}
