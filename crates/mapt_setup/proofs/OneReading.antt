@@ -1,6 +1,5 @@
 -- What a configuration says is read in one way.
-use Rattle.std.proofs.Common.{◌≡◌, ◌≤◌, ◌+◌, ◌-◌, ℕ, List, codes, Bool, true, false, Option, Some, None, Result, Ok, Err, IsSome, refl, sym, ap, subst, ◌∙◌}
-use native.Mathlib.Nat.{ℕ_set}
+use Rattle.std.proofs.Common.{◌≡◌, ◌≤◌, ◌+◌, ◌-◌, ℕ, List, codes, true, false, Option, Some, None, Err, refl, sym, subst, ◌∙◌}
 use Rattle.std.proofs.Math.Bool.{Bool-set}
 use native.Mathlib.Bridge.{le_prop}
 use mathlib.Core.HLevel.{is_prop→PathP}
@@ -35,7 +34,7 @@ use Rattle.mapt_setup.specs.declared.edge.EdgeLine.{EdgeLine}
 use Rattle.mapt_setup.specs.Answer.{OfTable, HasNone, such}
 use Rattle.mapt_setup.specs.Keys.{text_at, table_at, tables_at, number_at, number_or, flag_or, optional_text_at}
 use Rattle.mapt_setup.specs.EdgeName.{edge_name_at}
-use Rattle.mapt_setup.specs.Spelled.{HasAddr4, HasPrefix4, HasPrefix6, HasDmr}
+use Rattle.mapt_setup.specs.Spelled.{HasAddr4, HasPrefix4, HasPrefix6}
 use Rattle.mapt_setup.specs.Domain.{HasRequired, IsDomain}
 use Rattle.mapt_setup.specs.Rule.{IsRuleTable, IsRule}
 use Rattle.mapt_setup.specs.Edge.{IsEdgeTable, IsEdge}

@@ -1,12 +1,12 @@
 -- What tables and arrays in memory show of the keys and the elements of their views.
-use Rattle.std.proofs.Common.{◌≡◌, ℕ, Bool, List, [], ◌∷◌, map, refl, ap, ◌∙◌, ◌||◌, ◌&&◌, nat_eq, String, Global, string_bytes, Bor, Option, Some, None}
+use Rattle.std.proofs.Common.{◌≡◌, ℕ, List, [], ◌∷◌, map, refl, ap, ◌||◌, ◌&&◌, nat_eq, String, Global, string_bytes, Bor}
 use Rattle.std.specs.List.{list_any, list_all}
 use Rattle.std.specs.Map.{keys_of}
 use Rattle.std.specs.Cmp.Lexicographic.{pointwise}
 use Rattle.toml.specs.declared.value.Value.{Value}
 use Rattle.toml.specs.Data.{Data}
-use Rattle.toml.specs.View.{view, items_of, items_view, members_of, members_view}
-use Rattle.mapt_setup.specs.Keys.{is_among, names_of, has_only, elements, is_table}
+use Rattle.toml.specs.View.{view, items_of, members_view}
+use Rattle.mapt_setup.specs.Keys.{is_among, has_only, elements, is_table}
 
 abbrev pub Entry : Type 0
 Entry = String Global × Value

@@ -1,5 +1,5 @@
 -- What a text at a key spells is what reading it gives.
-use Rattle.std.proofs.Common.{◌≡◌, ◌↔◌, ℕ, IsTrue, IsSome, IfNone, List, Option, Some, None, IsSomeAnd, IsOkAnd, Result, Ok, Err, refl, sym, subst, ◌∙◌}
+use Rattle.std.proofs.Common.{◌≡◌, ◌↔◌, ℕ, IsTrue, IsSome, IfNone, List, Option, Some, None, IsSomeAnd, IsOkAnd, Result, Ok, Err, sym, subst, ◌∙◌}
 use Rattle.std.specs.Result.{result_ok}
 use Rattle.std.proofs.lemmas.Option.{same_Some}
 use Rattle.std.proofs.lemmas.Bool.{false≢true}

@@ -1,5 +1,5 @@
 -- How the answers of stages make that of the whole.
-use Rattle.std.proofs.Common.{◌≡◌, ℕ, List, codes, Vec, Global, BTreeMap, String, Option, Some, None, Result, Ok, Err, refl, sym, ap, inl, inr}
+use Rattle.std.proofs.Common.{◌≡◌, ℕ, List, codes, Vec, Global, Option, Some, None, Result, Ok, Err, refl, sym, ap, inl, inr}
 use Rattle.std.proofs.lemmas.Option.{same_Some}
 use Rattle.toml.specs.Data.{Members}
 use Rattle.toml.specs.View.{table_view}
@@ -9,10 +9,10 @@ use Rattle.mapt_setup.specs.declared.domain.Domain.{Domain}
 use Rattle.mapt_setup.specs.declared.rule.RuleLine.{RuleLine}
 use Rattle.mapt_setup.specs.declared.edge.EdgeLine.{EdgeLine}
 use Rattle.mapt_setup.specs.declared.setup.Setup.{Setup}
-use Rattle.mapt_setup.specs.declared.fault.SetupCause.TheVariants.{NotToml, TooMany, BadDomain, BadRule, BadEdge, RuleShape}
+use Rattle.mapt_setup.specs.declared.fault.SetupCause.TheVariants.{NotToml, BadDomain, BadRule, BadEdge, RuleShape}
 use Rattle.mapt_setup.specs.declared.fault.SetupFault.{SetupFault}
 use Rattle.mapt_setup.specs.declared.fault.SetupFault.TheVariants.{Refused, NotBuilt, NoMemory}
-use Rattle.mapt_setup.specs.Answer.{◌>>=◌, Gives, IsThen, barring, the, each}
+use Rattle.mapt_setup.specs.Answer.{◌>>=◌, Gives, barring, the, each}
 use Rattle.mapt_setup.specs.Keys.{tables_at}
 use Rattle.mapt_setup.specs.Domain.{IsDomain}
 use Rattle.mapt_setup.specs.Rule.{IsRule}

@@ -1,5 +1,5 @@
 -- Tables that say nothing, and lists of what tables say.
-use Rattle.std.proofs.Common.{◌≡◌, ℕ, ◌+◌, ◌<◌, ◌≤◌, subst, arith, List, [], ◌∷◌, ◌++◌, map, take, length, get_or, Option, Some, None, IfNone, refl, sym, ap, ◌∙◌, option_map, slice_get, add-one, zero, suc}
+use Rattle.std.proofs.Common.{◌≡◌, ℕ, ◌+◌, ◌<◌, ◌≤◌, subst, arith, List, [], ◌∷◌, ◌++◌, map, take, length, get_or, Option, Some, None, IfNone, refl, sym, ap, ◌∙◌, option_map, add-one, zero, suc}
 use Rattle.std.specs.List.{AllZip}
 use Rattle.std.proofs.lemmas.Option.{same_Some, slice_get_read, slice_get-map}
 use Rattle.std.proofs.Math.Seq.{take-suc}

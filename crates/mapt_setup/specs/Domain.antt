@@ -1,5 +1,5 @@
 -- What `[domain]` says.
-use Rattle.std.specs.Prelude.{◌≡◌, ℕ, List, [], ◌∷◌, codes, Bool, true, Option, Some}
+use Rattle.std.specs.Prelude.{◌≡◌, ℕ, List, [], ◌∷◌, codes, true, Some}
 use Rattle.toml.specs.Data.{Members}
 use Rattle.mapt_setup.specs.declared.domain.Required.{Required}
 use Rattle.mapt_setup.specs.declared.domain.Domain.{Domain}

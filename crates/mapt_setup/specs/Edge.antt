@@ -1,5 +1,5 @@
 -- What `[[edge]]` says.
-use Rattle.std.specs.Prelude.{◌≡◌, ℕ, List, [], ◌∷◌, codes, Bool, true, Option, Some}
+use Rattle.std.specs.Prelude.{◌≡◌, ℕ, List, [], ◌∷◌, codes, true, Some}
 use Rattle.toml.specs.Data.{Data, Members}
 use Rattle.mapt_setup.specs.declared.edge.EdgeLine.{EdgeLine}
 use Rattle.mapt_setup.specs.EdgeName.{edge_name_at}

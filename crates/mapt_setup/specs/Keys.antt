@@ -1,9 +1,9 @@
 -- What the keys of a table of the configuration hold. A configuration is a TOML document, and a table is
 -- its members.
-use Rattle.std.specs.Prelude.{ℕ, ℤ, pos, negsuc, List, [], ◌∷◌, map, codes, Bool, true, false, ◌&&◌, ◌||◌, nat_le, nat_eq, if◌then◌else◌, length, Option, Some, None, option_and_then, is_some}
+use Rattle.std.specs.Prelude.{ℕ, pos, List, [], ◌∷◌, Bool, ◌&&◌, nat_le, nat_eq, if◌then◌else◌, Option, Some, None, option_and_then, is_some}
 use Rattle.std.specs.List.{list_any, list_all}
 use Rattle.std.specs.Cmp.Lexicographic.{pointwise}
-use Rattle.toml.specs.Data.{Data, string, integer, float, boolean, datetime, array, table, Items, no_items, item, Members, no_members, member, get_member, same_key, as_str, as_bool, as_array, as_table}
+use Rattle.toml.specs.Data.{Data, integer, Items, no_items, item, Members, no_members, member, get_member, as_str, as_bool, as_array, as_table}
 
 -- the names of the members
 abbrev pub names_of : Members → List (List ℕ)

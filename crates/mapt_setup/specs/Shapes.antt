@@ -1,5 +1,5 @@
 -- The rules that have the shape of one (RFC 7597, section 5), and the book that they make.
-use Rattle.std.specs.Prelude.{◌≡◌, ℕ, List, IsSome, Option, Some, None, option_map, Result}
+use Rattle.std.specs.Prelude.{◌≡◌, List, IsSome, option_map, Result}
 use Rattle.map_rules.specs.declared.rule.Rule.{Rule}
 use Rattle.map_rules.specs.declared.dmr.Dmr.{Dmr}
 use Rattle.map_rules.specs.Shape.{first_broken}

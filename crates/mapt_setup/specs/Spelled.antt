@@ -1,5 +1,5 @@
 -- The addresses and prefixes whose texts stand at the keys of a table.
-use Rattle.std.specs.Prelude.{◌≡◌, ℕ, List, Option, Some}
+use Rattle.std.specs.Prelude.{◌≡◌, ℕ, List, Some}
 use Rattle.octets.specs.declared.address.Addr4.{Addr4}
 use Rattle.octets.specs.declared.prefix.Prefix4.{Prefix4}
 use Rattle.octets.specs.declared.prefix.Prefix6.{Prefix6}

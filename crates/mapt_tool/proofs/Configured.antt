@@ -6,7 +6,6 @@ use Rattle.mapt_setup.specs.declared.fault.SetupFault.{SetupFault}
 use Rattle.mapt_setup.specs.declared.fault.SetupFault.TheVariants as setup
 use Rattle.mapt_setup.specs.Answer.{Gives, exactly}
 use Rattle.mapt_setup.specs.Setup.{setup_of}
-use Rattle.mapt_tool.specs.declared.status.Status.{Status}
 use Rattle.mapt_tool.specs.Asked.{is_setup, said_of, says}
 use Rattle.mapt_tool.specs.Planned.{Planned}
 use Rattle.mapt_tool.specs.Planning.{Answers, AnswersOne}

@@ -1,5 +1,5 @@
 -- A command has one outcome on given files.
-use Rattle.std.proofs.Common.{◌≡◌, ◌⊎◌, ℕ, List, map, Result, Ok, Err, sym, ap, subst, ◌∙◌, inl, inr}
+use Rattle.std.proofs.Common.{◌≡◌, ℕ, List, Result, Ok, Err, sym, ap, subst, ◌∙◌, inl, inr}
 use Rattle.outside.specs.Files.{Files}
 use Rattle.outside.specs.declared.file_id.FileId.TheVariants.{Config}
 use Rattle.mapt_setup.specs.declared.setup.Setup.{Setup}
@@ -9,7 +9,6 @@ use Rattle.mapt_tool.specs.declared.status.Status.{Status}
 use Rattle.mapt_tool.specs.Asked.{is_setup, configured, rules_said, owner_said}
 use Rattle.mapt_tool.specs.Ends.{Outcome}
 use Rattle.mapt_tool.specs.Outcome.{text_of, replayed}
-use Rattle.mapt_tool.specs.Planned.{Planned}
 use Rattle.mapt_tool.specs.Planning.{gives, after}
 use Rattle.mapt_tool.specs.Status.{status_of}
 use Rattle.mapt_tool.specs.Words.{Request, replay, rules, owner}

@@ -1,13 +1,12 @@
 -- The one home that is served: its rule and its prefix as numbers, what it holds under the rule, and what
 -- its packets become.
-use Rattle.std.specs.Prelude.{◌≡◌, ℕ, ◌≤◌, ◌+◌, ◌-◌, ◌*◌, ◌/◌, ◌^◌, Bool, true, false, not, ◌&&◌, ◌||◌, ◌==◌, nat_lt, nat_le, if◌then◌else◌, List, [], ◌∷◌, ◌++◌, length, take, drop}
-use Rattle.octets.specs.Field.{octet, word, quad, part, in_word, in_quad, in_sixteen}
+use Rattle.std.specs.Prelude.{◌≡◌, ℕ, ◌≤◌, ◌+◌, ◌-◌, ◌*◌, ◌/◌, ◌^◌, Bool, true, false, not, ◌&&◌, ◌||◌, ◌==◌, nat_lt, nat_le, if◌then◌else◌, List, length, take, drop}
+use Rattle.octets.specs.Field.{octet, word, quad, part, in_sixteen}
 use Rattle.octets.specs.declared.proto.Proto.TheVariants.{Udp}
 use Rattle.octets.specs.declared.address.Addr6.{Addr6}
 use Rattle.inet_sum.specs.Sum.{words, folded, adjusted, as_udp}
 use Rattle.ip4_packet.specs.declared.head.Head4.{Head4}
 use Rattle.ip6_packet.specs.Written.{written6}
-use Rattle.l4_headers.specs.declared.ports.Ports.{Ports}
 use Rattle.l4_headers.specs.Transport.{l4_of, with_l4}
 use Rattle.port_set.specs.PortSet.{is_claimable}
 use Rattle.map_rules.specs.Address.{map_address}

@@ -1,6 +1,6 @@
 -- The addresses that stand behind an IPv6 address.
-use Rattle.std.proofs.Common.{◌≡◌, ◌≢◌, ℕ, suc, ◌+◌, ◌-◌, ◌*◌, ◌/◌, ◌%◌, ◌^◌, ◌<◌, ◌≤◌, Bool, true, false, cond, refl, sym, ap, subst, ◌∙◌, arith, lit<, IsTrue, ◌↔◌, inl, inr}
-use Rattle.std.specs.Prelude.{Option, Some, None, ◌==◌, ◌&&◌, nat_lt, if◌then◌else◌}
+use Rattle.std.proofs.Common.{◌≡◌, ◌≢◌, ℕ, suc, ◌+◌, ◌-◌, ◌*◌, ◌/◌, ◌%◌, ◌^◌, ◌<◌, ◌≤◌, Bool, true, false, refl, sym, ap, ◌∙◌, arith, ◌↔◌, inl, inr}
+use Rattle.std.specs.Prelude.{Some, None, ◌==◌, ◌&&◌, nat_lt, if◌then◌else◌}
 use Rattle.std.proofs.Math.Nat.{mul-le-mul_right}
 use Rattle.std.proofs.lemmas.Nat.{pow_pos, div-add-mod'}
 use Rattle.std.proofs.lemmas.Bool.Decides.{nat_tests, eqb_tells}
@@ -9,14 +9,12 @@ use Rattle.port_set.specs.PortSet.{in_set}
 use Rattle.map_rules.specs.declared.rule.Rule.{Rule}
 use Rattle.map_rules.specs.declared.dmr.Dmr.{Dmr}
 use Rattle.map_rules.specs.Embedding.{embedded}
-use Rattle.map_rules.specs.Rule.{psid_len, rule_address, IsSource, HasAddress}
+use Rattle.map_rules.specs.Rule.{psid_len, rule_address, IsSource}
 use Rattle.map_rules.proofs.Parts.{power}
-use Rattle.map_rules.proofs.Embedded.{length-least, length-most, first-part, rest-part, low-part, cut-long}
+use Rattle.map_rules.proofs.Embedded.{length-least, length-most, first-part, rest-part, cut-long}
 use Rattle.map_rules.proofs.Rules.{source-addr, source-psid}
-use Rattle.rule_book.specs.declared.view.FarOf.{FarOf}
-use Rattle.rule_book.specs.declared.view.FarOf.TheVariants.{Addr, Spoofed, NotDefault}
-use Rattle.rule_book.specs.Owner.{has_addr4}
-use Rattle.rule_book.specs.Far.{embedded_bits, extract_of, far_embedded, carried_addr, carried_psid, is_source, far_under}
+use Rattle.rule_book.specs.declared.view.FarOf.TheVariants.{Addr, Spoofed}
+use Rattle.rule_book.specs.Far.{embedded_bits, extract_of, carried_addr, carried_psid, is_source, far_under}
 
 -- the bits of an embedded address are that address
 pub embedded_bits-is : (dmr : Dmr) (s a : ℕ) → a < 2 ^ 32 → embedded dmr.prefix.bits dmr.prefix.len a ≡ s → embedded_bits dmr.prefix.len s ≡ a

@@ -1,5 +1,5 @@
 -- The search for the name of an edge, one prefix at a time.
-use Rattle.std.proofs.Common.{◌≡◌, ℕ, ◌+◌, ◌<◌, Bool, false, cond, List, [], ◌∷◌, length, get_or, drop, sym, ap, ◌∙◌}
+use Rattle.std.proofs.Common.{◌≡◌, ℕ, ◌+◌, ◌<◌, false, cond, List, [], ◌∷◌, length, get_or, drop, sym, ap, ◌∙◌}
 use Rattle.std.proofs.lemmas.List.{drop_more}
 use Rattle.octets.specs.declared.prefix.Prefix6.{Prefix6}
 use Rattle.map_rules.specs.declared.rule.Rule.{Rule}

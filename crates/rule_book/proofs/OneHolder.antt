@@ -1,14 +1,12 @@
 -- One holder of an IPv4 address and port.
-use Rattle.std.proofs.Common.{◌≡◌, ℕ, zero, suc, ◌+◌, ◌-◌, ◌*◌, ◌/◌, ◌%◌, ◌^◌, ◌<◌, ◌≤◌, Bool, true, false, cond, List, [], ◌∷◌, length, get_or, refl, sym, ap, subst, ◌∙◌, arith, lit<, IsTrue, inl, inr, ◌⊎◌}
+use Rattle.std.proofs.Common.{◌≡◌, ℕ, zero, suc, ◌+◌, ◌-◌, ◌*◌, ◌/◌, ◌%◌, ◌^◌, ◌<◌, ◌≤◌, Bool, true, false, cond, List, [], ◌∷◌, length, get_or, refl, sym, ap, subst, ◌∙◌, arith, IsTrue, inl, inr, ◌⊎◌}
 use Rattle.std.specs.Prelude.{Option, Some, None, ◌==◌, ◌&&◌, ◌||◌, nat_le, if◌then◌else◌, IsSomeAnd}
 use Rattle.std.specs.Option.{option_or, option_map}
 use Rattle.std.specs.List.{AllPairs}
-use Rattle.std.proofs.Math.Nat.{div-lt_iff_lt-mul}
 use Rattle.std.proofs.Math.Bool.{or-true}
-use Rattle.std.proofs.lemmas.Nat.{pow_pos, pow-add, shr-shr, div-add-mod', div-mul-add}
+use Rattle.std.proofs.lemmas.Nat.{pow_pos, shr-shr, div-add-mod', div-mul-add}
 use Rattle.std.proofs.lemmas.List.{get_or_default}
 use Rattle.std.proofs.lemmas.Option.{none-some}
-use Rattle.std.proofs.lemmas.Bool.{false≢true}
 use Rattle.std.proofs.lemmas.Bool.Decides.{nat_tests}
 use Rattle.octets.specs.declared.prefix.Prefix4.{Prefix4}
 use Rattle.octets.specs.declared.prefix.Prefix6.{Prefix6}
@@ -17,8 +15,8 @@ use Rattle.map_rules.specs.declared.rule.Rule.{Rule}
 use Rattle.map_rules.specs.declared.dmr.Dmr.{Dmr}
 use Rattle.map_rules.specs.Address.{psid_of}
 use Rattle.map_rules.specs.Rule.{psid_len, ea_bits, edge_address, edge_psid, rule_address, ce6_of, HasEdge}
-use Rattle.map_rules.proofs.Parts.{power, clear-parts, high-small}
-use Rattle.rule_book.specs.Overlap.{begins4, overlaps4, Overlaps4}
+use Rattle.map_rules.proofs.Parts.{clear-parts, high-small}
+use Rattle.rule_book.specs.Overlap.{begins4, Overlaps4}
 use Rattle.rule_book.specs.Valid.{IsValid}
 use Rattle.rule_book.specs.Owner.{owner_of, has_addr4}
 use Rattle.rule_book.specs.Holder.{Holder, has_edge, holder_under, holder_of, Holds}

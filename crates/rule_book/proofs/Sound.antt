@@ -1,8 +1,8 @@
 -- Rules that aren't refused are valid.
-use Rattle.std.proofs.Common.{◌≡◌, ℕ, ◌+◌, ◌<◌, ◌≤◌, Bool, true, false, IsTrue, List, [], ◌∷◌, ◌++◌, length, get_or, refl, sym, ap, subst, ◌∙◌, arith, append_assoc, append-nil}
+use Rattle.std.proofs.Common.{◌≡◌, ◌≤◌, Bool, true, false, IsTrue, List, [], ◌∷◌, ◌++◌, length, refl, sym, subst, ◌∙◌, arith, append_assoc, append-nil}
 use Rattle.std.specs.Prelude.{Option, Some, None, nat_lt, if◌then◌else◌}
 use Rattle.std.specs.Option.{option_or, option_map}
-use Rattle.std.specs.List.{position, All, AllPairs}
+use Rattle.std.specs.List.{position, AllPairs}
 use Rattle.std.proofs.lemmas.List.Quantifiers.{all_pairs_push}
 use Rattle.std.proofs.lemmas.Bool.{false≢true}
 use Rattle.std.proofs.lemmas.Bool.Decides.{nat_tests}
@@ -10,7 +10,6 @@ use Rattle.map_rules.specs.declared.rule.Rule.{Rule}
 use Rattle.map_rules.specs.declared.dmr.Dmr.{Dmr}
 use Rattle.rule_book.specs.declared.fault.BookFault.{BookFault}
 use Rattle.rule_book.specs.declared.fault.BookFault.TheVariants.{Overlap4, Overlap6, OverlapDmr}
-use Rattle.rule_book.specs.Overlap.{overlaps4, overlaps6}
 use Rattle.rule_book.specs.Valid.{IsValid, clash4, clash6, clash_dmr}
 use Rattle.rule_book.specs.Refusal.{pair_after, first_pair, too_many, overlap_of, refusal_of}
 use Rattle.rule_book.proofs.Places.{position-None}

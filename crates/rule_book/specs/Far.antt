@@ -1,6 +1,6 @@
 -- Which IPv4 address stands behind an IPv6 source address and a port (RFC 7597, section 8.1; RFC 7599,
 -- section 9).
-use Rattle.std.specs.Prelude.{ℕ, ◌+◌, ◌-◌, ◌*◌, ◌/◌, ◌%◌, ◌^◌, ◌==◌, ◌&&◌, nat_lt, Bool, if◌then◌else◌, List, [], ◌∷◌, Option, Some, None}
+use Rattle.std.specs.Prelude.{ℕ, ◌+◌, ◌-◌, ◌*◌, ◌/◌, ◌^◌, ◌==◌, ◌&&◌, nat_lt, Bool, if◌then◌else◌, List, [], ◌∷◌, Option, Some, None}
 use Rattle.std.specs.Option.{option_map_or}
 use Rattle.octets.specs.Bits.{bits_at}
 use Rattle.octets.specs.declared.prefix.Prefix6.{Prefix6}

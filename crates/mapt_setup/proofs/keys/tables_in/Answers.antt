@@ -1,8 +1,8 @@
-use Rattle.std.proofs.Common.{◌≡◌, ◌∙◌, sym, ap, map, Some, None, true, false, rules, option_and_then}
+use Rattle.std.proofs.Common.{◌≡◌, map, Some, true, false, rules}
 use Rattle.std.specs.List.{list_all}
 use Rattle.toml.specs.Data.{as_array}
 use Rattle.toml.specs.View.{view, items_view}
-use Rattle.mapt_setup.specs.Keys.{all_tables, elements, is_table}
+use Rattle.mapt_setup.specs.Keys.{is_table}
 use Rattle.mapt_setup.proofs.Seen.{elements-items_of, all_tables-view}
 use Rattle.mapt_setup.proofs.keys.tables_in.Goals as goal
 

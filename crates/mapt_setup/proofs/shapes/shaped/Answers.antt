@@ -1,6 +1,5 @@
-use Rattle.std.proofs.Common.{◌≡◌, ℕ, ◌≤◌, List, Some, IsSome, map, take, length, refl, sym, subst, ap, ◌∙◌}
+use Rattle.std.proofs.Common.{List, refl, subst, ◌∙◌}
 use Rattle.std.specs.List.{AllZip}
-use Rattle.map_rules.specs.declared.rule.Rule.{Rule}
 use Rattle.mapt_setup.specs.declared.rule.RuleLine.{RuleLine}
 use Rattle.mapt_setup.specs.Answer.{IsFirstBad}
 use Rattle.mapt_setup.specs.Shapes.{HasParts, BreaksShape}

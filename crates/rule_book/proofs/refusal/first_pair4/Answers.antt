@@ -1,4 +1,4 @@
-use Rattle.std.proofs.Common.{sym, ◌∙◌, arith}
+use Rattle.std.proofs.Common.{sym, ◌∙◌}
 use Rattle.rule_book.specs.Valid.{clash4}
 use Rattle.rule_book.proofs.Pairs.{pair_after-found, pair_after-next, pair_after-end}
 use Rattle.rule_book.proofs.refusal.first_pair4.Goals as goal

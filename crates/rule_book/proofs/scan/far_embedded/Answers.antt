@@ -1,7 +1,7 @@
-use Rattle.std.proofs.Common.{◌≡◌, ◌<◌, ◌^◌, sym, ap, arith}
+use Rattle.std.proofs.Common.{◌<◌, ◌^◌, sym, ap, arith}
 use Rattle.std.specs.Option.{option_map_or}
 use Rattle.rule_book.specs.declared.view.FarOf.TheVariants.{Addr, NotDefault}
-use Rattle.rule_book.proofs.FarEnds.{extract_of-found, extract_of-none}
+use Rattle.rule_book.proofs.FarEnds.{extract_of-found}
 use Rattle.rule_book.proofs.scan.far_embedded.Goals as goal
 
 pub returns-in-Some : goal.returns-in-Some

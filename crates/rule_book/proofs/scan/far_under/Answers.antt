@@ -1,4 +1,4 @@
-use Rattle.std.proofs.Common.{◌≡◌, Bool, sym, ◌∙◌, ap}
+use Rattle.std.proofs.Common.{sym, ◌∙◌, ap}
 use Rattle.std.specs.Prelude.{if◌then◌else◌}
 use Rattle.rule_book.specs.declared.view.FarOf.TheVariants.{Addr, Spoofed}
 use Rattle.rule_book.proofs.FarEnds.{far_under-by_set}

@@ -1,4 +1,4 @@
-use Rattle.std.proofs.Common.{sym, ◌∙◌}
+use Rattle.std.proofs.Common.{sym}
 use Rattle.std.proofs.lemmas.Result.{err_from_is_err_and}
 use Rattle.toml.specs.View.{table_view}
 use Rattle.mapt_setup.proofs.Stages.{Tables, bad_domain, bad_rule, bad_edge, bad_shape, bad_book, bad_edges, good}

@@ -1,8 +1,6 @@
-use Rattle.std.proofs.Common.{◌≡◌, sym, subst, ◌∙◌, List}
-use Rattle.std.specs.Prelude.{None}
+use Rattle.std.proofs.Common.{sym, subst, ◌∙◌, List}
 use Rattle.map_rules.specs.declared.rule.Rule.{Rule}
 use Rattle.rule_book.specs.Valid.{IsValid}
-use Rattle.rule_book.specs.Refusal.{refusal_of}
 use Rattle.rule_book.proofs.Sound.{valid-unless_refused}
 use Rattle.rule_book.proofs.book.Book.start.Goals as goal
 
