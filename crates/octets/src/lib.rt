@@ -20,9 +20,7 @@ mod text6;
 pub use address::{Addr4, Addr6, bits_of};
 pub use bytes::Bytes;
 pub use cause::{Cause, Fault};
-pub use laws::{
-    a_text_spells_one_value, an_ipv4_text_is_the_written_one, written_texts_are_read,
-};
+pub use laws::{a_text_spells_one_value, an_ipv4_text_is_the_written_one, written_texts_are_read};
 pub use memory::NoMemory;
 pub use mtus::Mtus;
 pub use name::Name;
