@@ -5,6 +5,7 @@ use Rattle.octets.specs.Field.{octet, word, quad, part, in_sixteen}
 use Rattle.octets.specs.declared.proto.Proto.TheVariants.{Udp}
 use Rattle.octets.specs.declared.address.Addr6.{Addr6}
 use Rattle.inet_sum.specs.Sum.{words, folded, adjusted, as_udp}
+use Rattle.ip4_packet.specs.Grammar.{total_len}
 use Rattle.ip4_packet.specs.declared.head.Head4.{Head4}
 use Rattle.ip6_packet.specs.Written.{written6}
 use Rattle.l4_headers.specs.Transport.{l4_of, with_l4}
@@ -32,7 +33,7 @@ outside_port inside = if is_claimable 6 8 0x34 inside then inside else 1232
 -- padding of the frame, and no part of the packet (RFC 894). Octets that are too few for a header are left as
 -- they are.
 abbrev pub packet_in : List ℕ → List ℕ
-packet_in octets = if nat_le 20 (length octets) then take (word octets 2) octets else octets
+packet_in octets = if nat_le 20 (length octets) then take (total_len octets) octets else octets
 
 -- The packets that are served are whole UDP packets over IPv4 without options. They have 28 to 1480 octets,
 abbrev pub is_sized : List ℕ → Bool
@@ -67,6 +68,10 @@ is_served packet = is_plain_udp packet && is_served_destination (quad packet 16)
 -- the packet is one of those
 unfoldable pub IsServed : List ℕ → Type 0
 IsServed packet = is_served packet ≡ true
+
+-- both packets come from one address and port
+abbrev pub same_source : List ℕ → List ℕ → Bool
+same_source packet other = quad packet 12 == quad other 12 && word packet 20 == word other 20
 
 -- The same, of a header that was read without a cause to refuse it: it has no options, belongs to no
 -- fragment, and carries UDP, its TTL is at least 3, and its destination isn't in the rule's 192.0.2.0/24.

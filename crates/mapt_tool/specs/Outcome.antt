@@ -2,7 +2,6 @@
 use Rattle.std.specs.Prelude.{ℕ, Bool, true, ◌&&◌, ◌==◌, nat_le, nat_lt, if◌then◌else◌, List, [], ◌∷◌, ◌++◌, length, map, Result, Ok, Err}
 use Rattle.std.specs.List.{list_all}
 use Rattle.std.specs.Str.{bytes_eq}
-use Rattle.octets.specs.Field.{word, quad}
 use Rattle.outside.specs.Files.{Files, content_of}
 use Rattle.outside.specs.declared.file_id.FileId.{FileId}
 use Rattle.outside.specs.declared.file_id.FileId.TheVariants.{Config, InLan, OutAccess}
@@ -14,7 +13,7 @@ use Rattle.mapt_tool.specs.declared.plan.FileWrite.{FileWrite}
 use Rattle.mapt_tool.specs.declared.status.Status.{Status}
 use Rattle.mapt_tool.specs.declared.status.Status.TheVariants.{CaptureRefused, TooLong, NotBuilt}
 use Rattle.mapt_tool.specs.declared.config.TheConstants.{HOME_CONFIG, HOME_LAN, ACCESS_SUFFIX}
-use Rattle.mapt_tool.specs.Home.{packet_in, is_served, outward}
+use Rattle.mapt_tool.specs.Home.{packet_in, is_served, same_source, outward}
 use Rattle.mapt_tool.specs.Limits.{file_limit, record_limit}
 use Rattle.mapt_tool.specs.Planned.{Planned}
 
@@ -40,10 +39,6 @@ times_from last (r ∷ rs) = nat_le last r.time && times_from r.time rs
 -- a record's packet, without padding
 abbrev pub packet_of : Record → List ℕ
 packet_of r = packet_in r.bytes
-
--- both packets come from one address and port
-abbrev pub same_source : List ℕ → List ℕ → Bool
-same_source packet other = quad packet 12 == quad other 12 && word packet 20 == word other 20
 
 -- all packets come from the source of the first
 abbrev pub have_one_source : List Record → Bool

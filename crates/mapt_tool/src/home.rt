@@ -1,5 +1,5 @@
 ghost use Rattle.std.specs.Prelude.{◌≡◌, ◌↔◌, IsTrue, IsSome, IfSome, IfOk, length, drop, ◌≤◌, ◌+◌, ◌^◌};
-ghost use Rattle.mapt_tool.specs.Home.{packet_in, home_address, far_address, outside_port, is_home_head, is_filled, is_served, IsServed, AreHeaders, address_sum, sum_before, sum_after, sum_of, datagram_of, outward, Stands};
+ghost use Rattle.mapt_tool.specs.Home.{packet_in, home_address, far_address, outside_port, is_home_head, is_filled, is_served, IsServed, AreHeaders, address_sum, sum_before, sum_after, sum_of, datagram_of, outward, Stands, same_source};
 ghost use Rattle.octets.specs.Field.{word};
 ghost use Rattle.inet_sum.specs.Sum.{as_udp};
 
@@ -31,6 +31,17 @@ const MOST_OCTETS: usize = 1480;
 
 /// The octets of a header without options.
 const HEADER_LEN: u8 = 20;
+
+/// Where the parts of a packet stand, in octets from its start, behind a header without options: the total
+/// length, the flags, the source (RFC 791, section 3.1), and the UDP datagram, whose first field is the source
+/// port (RFC 768).
+const TOTAL_AT: usize = 2;
+
+const FLAGS_AT: usize = 6;
+
+const SOURCE_AT: usize = 12;
+
+const DATAGRAM_AT: usize = 20;
 
 /// The protocol UDP.
 const UDP: u8 = 17;
@@ -71,7 +82,7 @@ pub fn packet_in(octets: &[u8]) -> &[u8]
     if octets.len() < usize::from(HEADER_LEN) {
         return octets;
     }
-    let total = usize::from(BigEndian::read_u16(&octets[2..]));
+    let total = usize::from(BigEndian::read_u16(&octets[TOTAL_AT..]));
     if octets.len() < total {
         return octets;
     }
@@ -99,8 +110,21 @@ fn is_filled(head: &Head4, packet: &[u8]) -> bool
     requires { 20 ≤ length packet.now }
     ensures { result ≡ is_filled head.now packet.now }
 {
-    let flags = BigEndian::read_u16(&packet[6..]);
+    let flags = BigEndian::read_u16(&packet[FLAGS_AT..]);
     usize::from(head.total) == packet.len() && packet.len() <= MOST_OCTETS && flags < RESERVED
+}
+
+/// Whether both packets come from one address and port.
+pub fn same_source(packet: &[u8], other: &[u8]) -> bool
+    requires packet { Stands packet.now }
+    requires other { Stands other.now }
+    ensures { result ≡ same_source packet.now other.now }
+{
+    let addresses = BigEndian::read_u32(&packet[SOURCE_AT..])
+        == BigEndian::read_u32(&other[SOURCE_AT..]);
+    let ports = BigEndian::read_u16(&packet[DATAGRAM_AT..])
+        == BigEndian::read_u16(&other[DATAGRAM_AT..]);
+    addresses && ports
 }
 
 /// The headers of the packet, where it is served.
@@ -114,7 +138,7 @@ fn served_headers(packet: &[u8]) -> Option<Headers>
     if !is_home_head(&head) || !is_filled(&head, packet) {
         return None;
     }
-    let Ok(l4) = read_l4(Proto::Udp, &packet[20..], true) else {
+    let Ok(l4) = read_l4(Proto::Udp, &packet[DATAGRAM_AT..], true) else {
         return None;
     };
     if l4.sum == 0 {
@@ -166,7 +190,7 @@ fn sum_before(packet: &[u8], port: u16) -> u64
     requires port { port ≡ word packet.now 20 }
     ensures { result ≡ sum_before packet.now }
 {
-    sum(&packet[12..20]) + u64::from(port)
+    sum(&packet[SOURCE_AT..DATAGRAM_AT]) + u64::from(port)
 }
 
 /// The sum of the words that they become.
@@ -195,7 +219,7 @@ fn payload_of(alloc: Global, packet: &[u8]) -> Result<Vec<u8>, NoMemory>
     requires { 28 ≤ length packet.now }
     ensures { IfOk result (λ datagram. datagram.items ≡ drop 20 packet.now) }
 {
-    let (_header, payload) = packet.split_at(20);
+    let (_header, payload) = packet.split_at(DATAGRAM_AT);
     Ok(Vec::from_slice(alloc, payload)?)
 }
 

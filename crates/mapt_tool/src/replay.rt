@@ -3,14 +3,13 @@ ghost use Rattle.std.specs.List.{list_all};
 ghost use Rattle.pcap_files.specs.Written.{written, IsWritable};
 ghost use Rattle.mapt_tool.specs.Home.{is_served, Stands};
 ghost use Rattle.mapt_tool.specs.Planning.{Tells, gives, Stops, Answers};
-ghost use Rattle.mapt_tool.specs.Outcome.{packet_of, times_from, same_source, have_one_source, are_served, outward_record, access_file, home_only, lan_records, planned_of, with_lan, replayed};
+ghost use Rattle.mapt_tool.specs.Outcome.{packet_of, times_from, have_one_source, are_served, outward_record, access_file, home_only, lan_records, planned_of, with_lan, replayed};
 
 use crate::config::{ACCESS_SUFFIX, HOME_CONFIG, HOME_LAN};
-use crate::home::{is_served, outward, packet_in};
+use crate::home::{is_served, outward, packet_in, same_source};
 use crate::plan::{FileWrite, Plan};
 use crate::reading::{FILE_LIMIT, read_text};
 use crate::status::Status;
-use byteorder::{BigEndian, ByteOrder};
 use octets::{Bytes, Name, NoMemory};
 use outside::{FileId, Folder};
 use pcap_files::{CaptureFault, Record, Records, Writer};
@@ -38,17 +37,6 @@ fn packet_of(captured: &Record) -> &[u8]
     ensures { result.now ≡ packet_of captured.now }
 {
     packet_in(captured.bytes.as_slice())
-}
-
-/// Whether both packets come from one address and port.
-fn same_source(packet: &[u8], other: &[u8]) -> bool
-    requires packet { Stands packet.now }
-    requires other { Stands other.now }
-    ensures { result ≡ same_source packet.now other.now }
-{
-    let addresses = BigEndian::read_u32(&packet[12..]) == BigEndian::read_u32(&other[12..]);
-    let ports = BigEndian::read_u16(&packet[20..]) == BigEndian::read_u16(&other[20..]);
-    addresses && ports
 }
 
 /// Whether each packet is served.
