@@ -1,6 +1,7 @@
 //! Capture files in the classic pcap format: a reader of every form of it, and a writer of one.
 #![tactic(auto)]
 
+mod entry;
 mod fault;
 mod form;
 mod frame;

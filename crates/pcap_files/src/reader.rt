@@ -5,21 +5,12 @@ ghost use Rattle.pcap_files.specs.Grammar.{IsCapture, HasFault};
 ghost use Rattle.pcap_files.specs.Written.{IsWritable};
 ghost use Rattle.pcap_files.specs.Capture.{Gives, entry_len, record_of, records_at, capture};
 
+use crate::entry::{CAPTURED, ENTRY_LEN, FRACTION, SECONDS};
 use crate::form::{Form, HEADER_LEN};
 use crate::frame::packet;
 use crate::{CaptureFault, Record, Records};
 use octets::{Bytes, NoMemory};
 use std::alloc::Global;
-
-/// The places of the fields before a record's captured octets. The original length isn't looked at.
-const SECONDS: usize = 0;
-
-const FRACTION: usize = 4;
-
-const CAPTURED: usize = 8;
-
-/// The octets before a record's captured ones.
-const ENTRY_LEN: usize = 16;
 
 /// The octets of the first record, if all of them stand there.
 #[tactic(auto, unfolding(crate::specs::Capture::entry_len))]

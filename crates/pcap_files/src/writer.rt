@@ -1,6 +1,7 @@
 ghost use Rattle.std.specs.Prelude.{◌≡◌, ◌<◌, ◌^◌, ◌++◌, List, ℕ, length, OnOk, OnErr, IfOk};
 ghost use Rattle.pcap_files.specs.Written.{empty_capture, entry_header, entry, IsWritableTime};
 
+use crate::entry::{CAPTURED, ENTRY_LEN, FRACTION, ORIGINAL, SECONDS};
 use byteorder::{ByteOrder, LittleEndian};
 use octets::NoMemory;
 use std::alloc::Global;
@@ -27,20 +28,17 @@ impl Model for Writer {
     ghost view = { λ w. w.octets.items };
 }
 
-/// The octets before a record's packet.
-const ENTRY_LEN: usize = 16;
-
 /// The octets before a record's packet of this length.
-fn entry_header(time: u64, len: u32) -> [u8; 16]
+fn entry_header(time: u64, len: u32) -> [u8; ENTRY_LEN]
     requires { IsWritableTime time }
     ensures { result ≡ entry_header time len }
 {
     let seconds = (time / 1_000_000).min(MOST_SECONDS);
-    let mut header = [0; 16];
-    LittleEndian::write_u32(&mut header[0..], seconds as u32);
-    LittleEndian::write_u32(&mut header[4..], (time - seconds * 1_000_000) as u32);
-    LittleEndian::write_u32(&mut header[8..], len);
-    LittleEndian::write_u32(&mut header[12..], len);
+    let mut header = [0; ENTRY_LEN];
+    LittleEndian::write_u32(&mut header[SECONDS..], seconds as u32);
+    LittleEndian::write_u32(&mut header[FRACTION..], (time - seconds * 1_000_000) as u32);
+    LittleEndian::write_u32(&mut header[CAPTURED..], len);
+    LittleEndian::write_u32(&mut header[ORIGINAL..], len);
     header
 }
 
