@@ -5,9 +5,11 @@ use Rattle.octets.specs.Bits.{bits_at}
 use Rattle.inet_sum.specs.Sum.{words, IsRight}
 use Rattle.inet_sum.proofs.Laws.{right_with_check}
 use Rattle.ip4_packet.specs.declared.head.Head4.{Head4}
-use Rattle.ip4_packet.specs.Written.{bit_of, fragment_field, header_with, header4, written4, IsInRange}
+use Rattle.octets.specs.Bits.{bit_of}
+use Rattle.octets.specs.Fragment.{IsWrongFragment}
+use Rattle.ip4_packet.specs.Written.{fragment_field, header_with, header4, written4, IsInRange}
 use Rattle.ip4_packet.specs.Grammar.{HasFields4, Is4}
-use Rattle.ip4_packet.specs.Causes.{IsNotIp4, IsTruncated4, IsBadHeader4, IsWrongFragment, IsNoDestination4, HasNoCause4, IsSound4}
+use Rattle.ip4_packet.specs.Causes.{IsNotIp4, IsTruncated4, IsBadHeader4, IsNoDestination4, HasNoCause4, IsSound4}
 use Rattle.std.proofs.lemmas.List.{take_all}
 use Rattle.ip4_packet.proofs.OptionLemmas.{ends}
 use Rattle.ip4_packet.proofs.CauseLemmas.{spared, below}

@@ -1,12 +1,13 @@
 -- For what a reader of the header refuses octets as an IPv4 packet. A packet's cause is the least that holds.
-use Rattle.std.specs.Prelude.{◌≡◌, ◌≢◌, ℕ, ◌+◌, ◌-◌, ◌*◌, ◌/◌, ◌%◌, ◌^◌, ◌<◌, ◌⊎◌, List, length, take, None, Result, Ok, Err}
+use Rattle.std.specs.Prelude.{◌≡◌, ◌≢◌, ℕ, ◌+◌, ◌-◌, ◌/◌, ◌^◌, ◌<◌, ◌⊎◌, List, length, take, None, Result, Ok, Err}
 use Rattle.octets.specs.declared.cause.Cause.{Cause}
 use Rattle.octets.specs.declared.cause.Cause.TheVariants.{NotIp, Truncated, BadHeader, BadHeaderSum, BadDestination}
 use Rattle.octets.specs.Cause.{number_of}
+use Rattle.octets.specs.Bits.{bit_of}
+use Rattle.octets.specs.Fragment.{IsWrongFragment}
 use Rattle.octets.specs.Field.{octet, quad}
 use Rattle.inet_sum.specs.Sum.{IsRight}
 use Rattle.ip4_packet.specs.Options.{routed_in}
-use Rattle.ip4_packet.specs.Written.{bit_of}
 use Rattle.ip4_packet.specs.Grammar.{header_len, total_len, more_flag, fragment_offset, option_octets, payload_of, Is4}
 use Rattle.ip4_packet.specs.declared.head.Head4.{Head4}
 
@@ -18,11 +19,6 @@ IsNotIp4 octets = (length octets ≡ 0) ⊎ (octet octets 0 / 16 ≢ 4)
 abbrev pub IsTruncated4 : List ℕ → Type 0
 IsTruncated4 octets =
     (length octets < 20) ⊎ ((length octets < header_len octets) ⊎ (length octets < total_len octets))
-
--- a fragment that ends past the greatest packet, or one that isn't the last and has a broken unit of 8
--- octets (RFC 791, section 3.2)
-abbrev pub IsWrongFragment : ℕ → ℕ → ℕ → Type 0
-IsWrongFragment offset more len = (65535 < offset * 8 + len) ⊎ ((more ≡ 1) × (len % 8 ≢ 0))
 
 -- header lengths, options or fragment fields that disagree
 abbrev pub IsBadHeader4 : List ℕ → Type 0

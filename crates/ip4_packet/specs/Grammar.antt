@@ -1,10 +1,9 @@
 -- What octets hold an IPv4 packet (RFC 791, section 3.1). Octets after the total length belong to no packet.
 use Rattle.std.specs.Prelude.{◌≡◌, ℕ, ◌-◌, ◌*◌, ◌/◌, ◌%◌, ◌≤◌, List, length, Some}
-use Rattle.octets.specs.Bits.{bits_at}
+use Rattle.octets.specs.Bits.{bits_at, bit_of}
 use Rattle.octets.specs.Field.{octet, word, quad, part}
 use Rattle.ip4_packet.specs.declared.head.Head4.{Head4}
 use Rattle.ip4_packet.specs.Options.{routed_in}
-use Rattle.ip4_packet.specs.Written.{bit_of}
 
 -- the declared octets of the header, which its field gives in words of 32 bits
 abbrev pub header_len : List ℕ → ℕ

@@ -1,13 +1,10 @@
 -- The one form in which an IPv4 packet is written (RFC 791, section 3.1): a header of 20 octets with no
 -- options, the reserved flag 0 and the right sum, then the payload, and nothing after it.
-use Rattle.std.specs.Prelude.{ℕ, ◌+◌, ◌*◌, ◌^◌, ◌<◌, Bool, if◌then◌else◌, List, ◌∷◌, ◌++◌}
+use Rattle.std.specs.Prelude.{ℕ, ◌+◌, ◌*◌, ◌^◌, ◌<◌, List, ◌∷◌, ◌++◌}
+use Rattle.octets.specs.Bits.{bit_of}
 use Rattle.octets.specs.Field.{in_word, in_quad}
 use Rattle.inet_sum.specs.Sum.{words, check_sum}
 use Rattle.ip4_packet.specs.declared.head.Head4.{Head4}
-
--- a flag as the number of its bit
-abbrev pub bit_of : Bool → ℕ
-bit_of flag = if flag then 1 else 0
 
 -- the reserved flag 0, the flags "don't fragment" and "more fragments", and the offset in units of 8 octets
 abbrev pub fragment_field : Head4 → ℕ

@@ -2,9 +2,10 @@
 
 ghost use Rattle.std.specs.Prelude.{◌≡◌, ◌<◌, ◌≤◌, ◌↔◌, IsTrue, length, take};
 ghost use Rattle.inet_sum.specs.Sum.{IsRight};
-ghost use Rattle.ip4_packet.specs.Written.{bit_of};
+ghost use Rattle.octets.specs.Bits.{bit_of};
+ghost use Rattle.octets.specs.Fragment.{IsWrongFragment};
 ghost use Rattle.ip4_packet.specs.Grammar.{header_len, total_len};
-ghost use Rattle.ip4_packet.specs.Causes.{IsNotIp4, IsTruncated4, IsWrongFragment, IsNoDestination4};
+ghost use Rattle.ip4_packet.specs.Causes.{IsNotIp4, IsTruncated4, IsNoDestination4};
 
 use crate::field::word_at;
 use crate::layout::{GROUP, HEADER_LEN, MAX_LEN, TOTAL_AT, VERSION, VERSION_AT};

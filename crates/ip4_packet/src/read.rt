@@ -7,7 +7,7 @@ ghost use Rattle.ip4_packet.specs.declared.head.Head4.{Head4 as Header};
 ghost use Rattle.ip4_packet.specs.Options.{routed_in};
 ghost use Rattle.ip4_packet.specs.Grammar.{header_len, total_len, option_octets, more_flag, fragment_offset, payload_of, HasFields4, Is4};
 ghost use Rattle.ip4_packet.specs.Causes.{IsTruncated4, IsBadHeader4, HasNoCause4, IsCause4, StaysRead};
-ghost use Rattle.ip4_packet.specs.Written.{bit_of};
+ghost use Rattle.octets.specs.Bits.{bit_of};
 
 use crate::fault::{
     has_right_sum, header_len, is_no_destination, is_not_ip, is_truncated, is_wrong_fragment,

@@ -5,7 +5,8 @@ use Rattle.std.proofs.lemmas.List.{take_all, drop_at}
 use Rattle.octets.specs.Field.{in_sixteen}
 use Rattle.ip6_packet.specs.declared.head.Head6.{Head6}
 use Rattle.ip6_packet.specs.declared.head.Frag6.{Frag6}
-use Rattle.ip6_packet.specs.Written.{bit_of, fragment_header, fragment_part, next_header, fixed_header, written6, IsUpper, IsPlaced, IsInRange, FitsFrag}
+use Rattle.octets.specs.Bits.{bit_of}
+use Rattle.ip6_packet.specs.Written.{fragment_header, fragment_part, next_header, fixed_header, written6, IsUpper, IsPlaced, IsInRange, FitsFrag}
 use Rattle.ip6_packet.specs.Chain.{is_sized, frag_of, chain_in}
 use Rattle.ip6_packet.specs.Grammar.{payload_len, HasFields6, Is6}
 use Rattle.ip6_packet.specs.Causes.{IsNotIp6, IsTruncated6, IsBadHeader6, IsWrongFrag6, IsNoDestination6, HasNoCause6, IsSound6}

@@ -1,12 +1,13 @@
 -- For what a reader of the headers refuses octets as an IPv6 packet. A packet's cause is the least that holds.
-use Rattle.std.specs.Prelude.{◌≡◌, ◌≢◌, ℕ, ◌+◌, ◌-◌, ◌*◌, ◌/◌, ◌%◌, ◌^◌, ◌<◌, ◌⊎◌, List, length, Option, None, Some, Result, Ok, Err}
+use Rattle.std.specs.Prelude.{◌≡◌, ◌≢◌, ℕ, ◌+◌, ◌-◌, ◌/◌, ◌^◌, ◌<◌, ◌⊎◌, List, length, Option, None, Some, Result, Ok, Err}
 use Rattle.octets.specs.declared.cause.Cause.{Cause}
 use Rattle.octets.specs.declared.cause.Cause.TheVariants.{NotIp, Truncated, BadHeader, BadDestination}
 use Rattle.octets.specs.Cause.{number_of}
+use Rattle.octets.specs.Bits.{bit_of}
+use Rattle.octets.specs.Fragment.{IsWrongFragment}
 use Rattle.octets.specs.Field.{octet, sixteen}
 use Rattle.ip6_packet.specs.declared.head.Frag6.{Frag6}
 use Rattle.ip6_packet.specs.declared.head.Head6.{Head6}
-use Rattle.ip6_packet.specs.Written.{bit_of}
 use Rattle.ip6_packet.specs.declared.chain.Chain.{Chain}
 use Rattle.ip6_packet.specs.Grammar.{payload_len, payload_of, chain_of, Is6}
 
@@ -17,11 +18,6 @@ IsNotIp6 octets = (length octets ≡ 0) ⊎ (octet octets 0 / 16 ≢ 6)
 -- fewer octets than the IPv6 header, or than the declared packet
 abbrev pub IsTruncated6 : List ℕ → Type 0
 IsTruncated6 octets = (length octets < 40) ⊎ (length octets < 40 + payload_len octets)
-
--- a fragment that ends past the greatest payload, or one that isn't the last and has a broken unit of 8
--- octets (RFC 8200, section 4.5)
-abbrev pub IsWrongFragment : ℕ → ℕ → ℕ → Type 0
-IsWrongFragment offset more len = (65535 < offset * 8 + len) ⊎ ((more ≡ 1) × (len % 8 ≢ 0))
 
 -- a Fragment Header, where there is one, in front of a payload of this length
 abbrev pub IsWrongFrag6 : Option Frag6 → ℕ → Type 0

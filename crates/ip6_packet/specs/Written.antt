@@ -1,13 +1,10 @@
 -- The one form in which an IPv6 packet is written (RFC 8200, sections 3 and 4.5): the header with flow
 -- label 0, a Fragment Header where the fields have one, the payload, and nothing after it.
-use Rattle.std.specs.Prelude.{◌≡◌, ◌≢◌, ℕ, ◌+◌, ◌*◌, ◌^◌, ◌<◌, ◌≤◌, Bool, if◌then◌else◌, List, [], ◌∷◌, ◌++◌, length, Option, None, Some}
+use Rattle.std.specs.Prelude.{◌≡◌, ◌≢◌, ℕ, ◌+◌, ◌*◌, ◌^◌, ◌<◌, ◌≤◌, List, [], ◌∷◌, ◌++◌, length, Option, None, Some}
+use Rattle.octets.specs.Bits.{bit_of}
 use Rattle.octets.specs.Field.{in_word, in_quad, in_sixteen}
 use Rattle.ip6_packet.specs.declared.head.Frag6.{Frag6}
 use Rattle.ip6_packet.specs.declared.head.Head6.{Head6}
-
--- a flag as the number of its bit
-abbrev pub bit_of : Bool → ℕ
-bit_of flag = if flag then 1 else 0
 
 -- a Fragment Header: the number of what follows, a reserved octet, the offset in units of 8 octets over
 -- two reserved bits and the flag for more fragments, the identification

@@ -1,9 +1,10 @@
 //! For what octets are refused as an IPv6 packet, one test a cause.
 
 ghost use Rattle.std.specs.Prelude.{◌≡◌, ◌+◌, ◌<◌, ◌≤◌, ◌↔◌, IsTrue, length};
-ghost use Rattle.ip6_packet.specs.Written.{bit_of};
+ghost use Rattle.octets.specs.Bits.{bit_of};
+ghost use Rattle.octets.specs.Fragment.{IsWrongFragment};
 ghost use Rattle.ip6_packet.specs.Grammar.{payload_len};
-ghost use Rattle.ip6_packet.specs.Causes.{IsNotIp6, IsTruncated6, IsWrongFragment, IsWrongFrag6, IsNoDestination6};
+ghost use Rattle.ip6_packet.specs.Causes.{IsNotIp6, IsTruncated6, IsWrongFrag6, IsNoDestination6};
 
 use crate::field::word_at;
 use crate::head::Frag6;

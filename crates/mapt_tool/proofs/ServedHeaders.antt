@@ -9,7 +9,7 @@ use Rattle.octets.specs.Field.{octet, word, quad}
 use Rattle.octets.specs.declared.proto.Proto.TheVariants.{Udp}
 use Rattle.inet_sum.specs.Sum.{words, folded, IsRight}
 use Rattle.ip4_packet.specs.declared.head.Head4.{Head4}
-use Rattle.ip4_packet.specs.Written.{bit_of}
+use Rattle.octets.specs.Bits.{bit_of}
 use Rattle.ip4_packet.specs.Grammar.{Is4}
 use Rattle.ip4_packet.specs.Causes.{IsNotIp4, IsTruncated4, IsBadHeader4, IsNoDestination4, HasNoCause4}
 use Rattle.ip4_packet.proofs.OptionLemmas.{ends}

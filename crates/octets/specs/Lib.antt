@@ -2,6 +2,7 @@ pub mod Bits
 pub mod Cause
 pub mod Count
 pub mod Field
+pub mod Fragment
 pub mod Numeral
 pub mod PrefixText
 pub mod Text4
