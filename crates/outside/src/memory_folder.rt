@@ -25,11 +25,14 @@ pub struct MemFolder {
 }
 
 impl MemFolder {
-    ghost use Rattle.outside.specs.InMemory.{memory_files};
+    ghost use Rattle.outside.specs.InMemory.{memory_files, with_memory_files, failing_reads, failing_writes, next_read, next_write};
 
     /// A folder without files, in which these reads and writes fail.
     pub fn new(alloc: Global, reads: Vec<u64>, writes: Vec<u64>) -> MemFolder
-        ensures { memory_files result ≡ map.empty }
+        ensures files { memory_files result ≡ map.empty }
+        ensures failing_reads { failing_reads result ≡ reads.items }
+        ensures failing_writes { failing_writes result ≡ writes.items }
+        ensures next { (next_read result ≡ 0) × (next_write result ≡ 0) }
     {
         MemFolder {
             alloc,
@@ -46,8 +49,8 @@ impl MemFolder {
 
     /// Sets a file. It counts as no call.
     pub fn put_file(&mut self, name: &str, bytes: &[u8]) -> Result<(), NoMemory>
-        ensures ok { OnOk result (memory_files self.new ≡ with_file (memory_files self.old) name.now bytes.now) }
-        ensures err { OnErr result (memory_files self.new ≡ memory_files self.old) }
+        ensures ok { OnOk result (self.new ≡ with_memory_files (with_file (memory_files self.old) name.now bytes.now) self.old) }
+        ensures err { OnErr result (self.new ≡ self.old) }
     {
         self.store.put(self.alloc, name, bytes)
     }

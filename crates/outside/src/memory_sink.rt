@@ -15,11 +15,13 @@ pub struct MemSink {
 }
 
 impl MemSink {
-    ghost use Rattle.outside.specs.InMemory.{memory_text};
+    ghost use Rattle.outside.specs.InMemory.{memory_text, failing_puts, next_put};
 
     /// A sink without text, in which these calls fail.
     pub fn new(alloc: Global, puts: Vec<u64>) -> MemSink
-        ensures { memory_text result ≡ [] }
+        ensures text { memory_text result ≡ [] }
+        ensures failing { failing_puts result ≡ puts.items }
+        ensures next { next_put result ≡ 0 }
     {
         MemSink {
             text: Bytes::new(alloc),

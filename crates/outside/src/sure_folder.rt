@@ -18,7 +18,7 @@ pub struct SureFolder {
 }
 
 impl SureFolder {
-    ghost use Rattle.outside.specs.InMemory.{sure_files};
+    ghost use Rattle.outside.specs.InMemory.{sure_files, with_sure_files};
 
     /// A folder without files.
     pub fn new(alloc: Global) -> SureFolder
@@ -33,8 +33,8 @@ impl SureFolder {
 
     /// Sets a file. It counts as no call.
     pub fn put_file(&mut self, name: &str, bytes: &[u8]) -> Result<(), NoMemory>
-        ensures ok { OnOk result (sure_files self.new ≡ with_file (sure_files self.old) name.now bytes.now) }
-        ensures err { OnErr result (sure_files self.new ≡ sure_files self.old) }
+        ensures ok { OnOk result (self.new ≡ with_sure_files (with_file (sure_files self.old) name.now bytes.now) self.old) }
+        ensures err { OnErr result (self.new ≡ self.old) }
     {
         self.store.put(self.alloc, name, bytes)
     }
