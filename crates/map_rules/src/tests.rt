@@ -72,7 +72,7 @@ const EDGES: [Edge; 9] = [
         psid: 0,
         own6: 0x2001_0db8_0012_0000_0000_c000_0212_0000,
     },
-    // One edge with one address: no EA bits.
+    // Example 4: one edge with one address, and no EA bits.
     Edge {
         six: (0x2001_0db8_0012_3400_0000_0000_0000_0000, 56),
         four: (0xc000_0212, 32),
