@@ -1,7 +1,7 @@
 -- The definitions, computed on two packets of the home to 198.51.100.7:53, from the ports 5000 and 2257.
-use Rattle.std.proofs.Common.{◌≡◌, ℕ, true, List, [], ◌∷◌, refl}
+use Rattle.std.proofs.Common.{◌≡◌, ℕ, true, List, [], ◌∷◌, ◌++◌, replicate, refl}
 use Rattle.map_rules.specs.Embedding.{embedded}
-use Rattle.mapt_tool.specs.Home.{home_address, far_address, is_served, address_sum, sum_before, sum_after, sum_of, datagram_of, outward}
+use Rattle.mapt_tool.specs.Home.{packet_in, home_address, far_address, is_served, address_sum, sum_before, sum_after, sum_of, datagram_of, outward}
 
 abbrev plain : List ℕ
 plain = 69 ∷ 0 ∷ 0 ∷ 30 ∷ 0 ∷ 1 ∷ 0 ∷ 0 ∷ 64 ∷ 17 ∷ 142 ∷ 225 ∷ 192 ∷ 168 ∷ 1 ∷ 10 ∷ 198 ∷ 51 ∷ 100 ∷ 7 ∷ 19 ∷ 136 ∷ 0 ∷ 53 ∷ 0 ∷ 10 ∷ 151 ∷ 198 ∷ 104 ∷ 105 ∷ []
@@ -14,6 +14,10 @@ claimable = 69 ∷ 0 ∷ 0 ∷ 30 ∷ 0 ∷ 1 ∷ 0 ∷ 0 ∷ 64 ∷ 17 ∷ 142 
 
 abbrev claimable_outward : List ℕ
 claimable_outward = 96 ∷ 0 ∷ 0 ∷ 0 ∷ 0 ∷ 10 ∷ 17 ∷ 63 ∷ 32 ∷ 1 ∷ 13 ∷ 184 ∷ 0 ∷ 18 ∷ 52 ∷ 0 ∷ 0 ∷ 0 ∷ 192 ∷ 0 ∷ 2 ∷ 18 ∷ 0 ∷ 52 ∷ 32 ∷ 1 ∷ 13 ∷ 184 ∷ 255 ∷ 255 ∷ 0 ∷ 0 ∷ 0 ∷ 198 ∷ 51 ∷ 100 ∷ 7 ∷ 0 ∷ 0 ∷ 0 ∷ 8 ∷ 209 ∷ 0 ∷ 53 ∷ 0 ∷ 10 ∷ 1 ∷ 118 ∷ 104 ∷ 105 ∷ []
+
+-- 16 octets of padding behind the packet are no part of it
+pub padding_is_cut : packet_in (plain ++ replicate 16 0) ≡ plain
+padding_is_cut = refl
 
 pub plain_is_served : is_served plain ≡ true
 plain_is_served = refl
