@@ -1,6 +1,7 @@
 #!/usr/bin/env bash
 # Has tshark read each capture that the program writes for the examples, with checksums verified: as many
-# packets come out as went in, and each UDP sum is right.
+# packets come out as went in, and each UDP sum is right. And has text2pcap write an example's packet as a padded
+# Ethernet frame with a time in nanoseconds, which is replayed to the same packet.
 #
 #   interop/tshark.sh [PROGRAM]      PROGRAM is crates/mapt/out/mapt where left out
 set -eu
@@ -35,7 +36,33 @@ check() {
     [ "$sent" -gt 0 ] && [ "$received" -eq "$sent" ] && [ "$right" -eq "$sent" ]
 }
 
+# Octets of a capture before the first packet: the file header and that of the record.
+before_packet=40
+
+# Replays the first example's packet from a capture that text2pcap writes.
+check_ethernet() {
+    if ! command -v text2pcap >/dev/null; then
+        echo "interop: Ethernet: skipped, since text2pcap is missing"
+        return
+    fi
+    cp "$top/examples/home.toml" "$top/examples/lan-home.pcap" "$work/"
+    (cd "$work" && "$program" replay home.toml raw-)
+    tail -c +$((before_packet + 1)) "$top/examples/lan-home.pcap" | od -Ax -tx1 -v |
+        text2pcap -q -e 0x0800 -F nsecpcap - "$work/lan-home.pcap" >/dev/null 2>&1
+    (cd "$work" && "$program" replay home.toml ethernet-)
+    for name in raw ethernet; do
+        tail -c +$((before_packet + 1)) "$work/$name-access.pcap" >"$work/$name"
+    done
+    if cmp -s "$work/raw" "$work/ethernet"; then
+        echo "interop: Ethernet: a padded frame comes out as the same packet"
+    else
+        echo "interop: Ethernet: a padded frame comes out as another packet"
+        return 1
+    fi
+}
+
 status=0
+check_ethernet || status=1
 for example in examples examples/many; do
     check "$example" || status=1
 done
