@@ -69,10 +69,6 @@ is_served packet = is_plain_udp packet && is_served_destination (quad packet 16)
 unfoldable pub IsServed : List ℕ → Type 0
 IsServed packet = is_served packet ≡ true
 
--- both packets come from one address and port
-abbrev pub same_source : List ℕ → List ℕ → Bool
-same_source packet other = quad packet 12 == quad other 12 && word packet 20 == word other 20
-
 -- The same, of a header that was read without a cause to refuse it: it has no options, belongs to no
 -- fragment, and carries UDP, its TTL is at least 3, and its destination isn't in the rule's 192.0.2.0/24.
 abbrev pub is_home_head : Head4 → Bool
@@ -100,6 +96,10 @@ head_of packet = record {
   total = word packet 2;
   routed = false;
 }
+
+-- both packets come from one address and port
+abbrev pub same_source : List ℕ → List ℕ → Bool
+same_source packet other = quad packet 12 == quad other 12 && word packet 20 == word other 20
 
 -- the headers of a packet: that of IPv4, and that of UDP
 pub record AreHeaders (headers : Headers) (packet : List ℕ) : Type 0 where
