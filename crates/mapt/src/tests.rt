@@ -467,6 +467,10 @@ fn fault_lines(rt: HostRuntime) -> Result<(), Fail> {
             "the LAN capture of edge 0 is refused: record 3 is incomplete [CaptureRefused(InLan(0), Cut(3))]",
         ),
         (
+            Status::SetupRefused(SetupCause::Overlap4, 1),
+            "the configuration is refused: the IPv4 prefix of a rule overlaps that of an earlier one, at 1 [SetupRefused(Overlap4, 1)]",
+        ),
+        (
             Status::ReadFault(FileId::Config),
             "the configuration could not be read [ReadFault(Config)]",
         ),

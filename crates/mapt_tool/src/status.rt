@@ -24,7 +24,7 @@ pub enum Status {
     #[error("{0} could not be written [WriteFault({0:?})]")]
     WriteFault(FileId),
     /// The configuration breaks a rule: the first cause, and its least place.
-    #[error("the configuration is refused: {0:?} at {1} [SetupRefused({0:?}, {1})]")]
+    #[error("the configuration is refused: {0}, at {1} [SetupRefused({0:?}, {1})]")]
     SetupRefused(SetupCause, u32),
     /// This capture has this fault.
     #[error("{0} is refused: {1} [CaptureRefused({0:?}, {1:?})]")]
