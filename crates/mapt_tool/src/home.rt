@@ -9,6 +9,7 @@ use ip4_packet::Head4;
 use l4_headers::{L4, Ports, read_l4, set_l4};
 use map_rules::Dmr;
 use octets::{Addr4, Addr6, Bytes, NoMemory, Prefix6, Proto};
+use port_set::PortSet;
 use std::alloc::Global;
 use xlat46::head46;
 
@@ -23,7 +24,14 @@ const DEFAULT_RULE: Dmr = Dmr {
     },
 };
 
-/// The least port of the home's set.
+/// The home's port set.
+const HOME_PORTS: PortSet = PortSet {
+    a: 6,
+    k: 8,
+    psid: 0x34,
+};
+
+/// The least port of that set.
 const LEAST_PORT: u16 = 1232;
 
 /// The most octets of a packet that is served. Its translation is 20 longer.
@@ -41,7 +49,7 @@ const FLAGS_AT: usize = 6;
 
 const SOURCE_AT: usize = 12;
 
-const DATAGRAM_AT: usize = 20;
+const DATAGRAM_AT: usize = HEADER_LEN as usize;
 
 /// The protocol UDP.
 const UDP: u8 = 17;
@@ -66,7 +74,7 @@ fn far_address(addr: Addr4) -> Addr6
 fn outside_port(inside: u16) -> u16
     ensures { result ≡ outside_port inside }
 {
-    if inside >= 1024 && (inside >> 2) % 256 == 0x34 {
+    if HOME_PORTS.claimable(inside) {
         inside
     } else {
         LEAST_PORT
