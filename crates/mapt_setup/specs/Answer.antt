@@ -1,5 +1,5 @@
 -- What a configuration is answered with, stage by stage: a value, or the first fault. An answer is the set
--- of the results that may be given; it has one, but where memory runs out.
+-- of the results that may be given: at most one.
 use Rattle.std.specs.Prelude.{◌≡◌, ◌⊎◌, ℕ, List, take, slice_get, Option, Some, None, Result, Ok, Err}
 use Rattle.std.specs.List.{AllZip}
 use Rattle.toml.specs.Data.{Data, table, Members}

@@ -16,7 +16,7 @@ mod spelled;
 
 pub use edge::{EdgeLine, Edges};
 pub use fault::{SetupCause, SetupFault};
-pub use laws::octets_have_one_answer;
+pub use laws::octets_have_at_most_one_answer;
 pub use setup::Setup;
 
 #[cfg(test)]

@@ -1,4 +1,4 @@
--- A command has one outcome on given files.
+-- A command has at most one outcome on given files.
 use Rattle.std.proofs.Common.{◌≡◌, ℕ, List, Result, Ok, Err, sym, ap, subst, ◌∙◌, inl, inr}
 use Rattle.outside.specs.Files.{Files}
 use Rattle.outside.specs.declared.file_id.FileId.TheVariants.{Config}

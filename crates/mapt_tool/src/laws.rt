@@ -7,7 +7,8 @@ ghost use Rattle.mapt_tool.specs.Ends.{Outcome};
 ghost use Rattle.mapt_tool.specs.Planned.{Planned};
 ghost use Rattle.mapt_tool.specs.Words.{Request};
 
-/// A command has one outcome on given files: what it writes and says, or the status with which it is refused.
-pub fn commands_have_one_outcome()
+/// A command has at most one outcome on given files: what it writes and says, or the status with which it is
+/// refused.
+pub fn commands_have_at_most_one_outcome()
     ensures { (request : Request) (files : Files) (one other : Result Planned Ending) → Outcome request files one → Outcome request files other → one ≡ other }
 {}

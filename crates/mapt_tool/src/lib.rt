@@ -13,6 +13,6 @@ mod status;
 mod tool;
 mod words;
 
-pub use laws::commands_have_one_outcome;
+pub use laws::commands_have_at_most_one_outcome;
 pub use status::Status;
 pub use tool::{mapt, mapt_plain};
