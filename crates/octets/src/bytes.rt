@@ -1,4 +1,4 @@
-ghost use Rattle.std.specs.Prelude.{◌≡◌, List, ℕ, [], ◌∷◌, ◌++◌, OnOk, OnErr, IfOk};
+ghost use Rattle.std.specs.Prelude.{◌≡◌, List, ℕ, [], ◌∷◌, ◌++◌, IsOk, OnOk, OnErr, IfOk};
 
 use crate::NoMemory;
 use std::alloc::Global;
@@ -44,10 +44,14 @@ impl Bytes {
         Ok(())
     }
 
-    /// The same octets once more.
+    /// The same octets once more. A copy of no octets takes no memory.
     pub fn copy(&self, alloc: Global) -> Result<Bytes, NoMemory>
-        ensures { IfOk result (λ copied. copied ≡ self.now) }
+        ensures same { IfOk result (λ copied. copied ≡ self.now) }
+        ensures empty { self.now ≡ [] → IsOk result }
     {
+        if self.octets.is_empty() {
+            return Ok(Bytes::new(alloc));
+        }
         Ok(Bytes {
             octets: Vec::from_slice(alloc, &self.octets)?,
         })

@@ -1,4 +1,4 @@
-ghost use Rattle.std.specs.Prelude.{◌≡◌, List, [], ◌∷◌, ◌++◌, OnOk, OnErr, IfOk};
+ghost use Rattle.std.specs.Prelude.{◌≡◌, List, [], ◌∷◌, ◌++◌, IsOk, OnOk, OnErr, IfOk};
 ghost use Rattle.octets.specs.declared.parcel.Parcel.{Parcel as ParcelType};
 
 use crate::{Bytes, NoMemory};
@@ -43,9 +43,10 @@ impl Parcels {
         Ok(())
     }
 
-    /// The same parcels once more.
+    /// The same parcels once more. A copy of no parcels takes no memory.
     pub fn copy(&self, alloc: Global) -> Result<Parcels, NoMemory>
-        ensures { IfOk result (λ copied. copied ≡ self.now) }
+        ensures same { IfOk result (λ copied. copied ≡ self.now) }
+        ensures empty { self.now ≡ [] → IsOk result }
     {
         let mut copied = Parcels::new(alloc);
         for parcel in &self.parcels {
