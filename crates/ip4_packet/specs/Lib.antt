@@ -1,4 +1,5 @@
 pub mod Causes
+pub mod Embedded
 pub mod Grammar
 pub mod Options
 pub mod Written

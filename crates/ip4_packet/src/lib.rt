@@ -2,6 +2,7 @@
 //! packet is written.
 #![tactic(auto)]
 
+mod embedded;
 mod fault;
 mod field;
 mod head;
