@@ -1,0 +1,5 @@
+pub mod Copied
+pub mod State
+pub mod Frag
+pub mod Listed
+pub mod Place

@@ -1,0 +1,13 @@
+//! The notes that a node keeps on fragments, so that a later fragment, which has no ports, gets those of
+//! the first one and waits for it where it comes earlier (RFC 6146, section 3.4).
+#![tactic(auto)]
+
+mod answer;
+mod ask;
+mod key;
+mod note;
+
+pub use answer::FragAnswer;
+pub use ask::FragAsk;
+pub use key::FragKey;
+pub use note::Note;
