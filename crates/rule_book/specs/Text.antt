@@ -8,6 +8,7 @@ use Rattle.octets.specs.Text6.{text6}
 use Rattle.octets.specs.PrefixText.{prefix_text4, prefix_text6}
 use Rattle.map_rules.specs.declared.rule.Rule.{Rule}
 use Rattle.map_rules.specs.declared.dmr.Dmr.{Dmr}
+use Rattle.rule_book.specs.declared.lines.RuleParts.{RuleParts}
 use Rattle.rule_book.specs.Owner.{owner_of}
 use Rattle.rule_book.specs.Far.{carried_psid}
 use Rattle.rule_book.specs.Holder.{holder_of}
@@ -20,13 +21,21 @@ newline = 10 ∷ []
 abbrev pub flag_text : Bool → List ℕ
 flag_text flag = if flag then codes "1" else codes "0"
 
--- the line of a rule: its prefixes, its EA length, its offset and whether it is a forwarding rule
-unfoldable pub rule_line : Rule → List ℕ
-rule_line r = codes "rule " ++ prefix_text6 r.prefix6.bits r.prefix6.len ++ codes " " ++ prefix_text4 r.prefix4.bits r.prefix4.len ++ codes " ea " ++ decimal r.ea ++ codes " offset " ++ decimal r.offset ++ codes " forward " ++ flag_text r.forward ++ newline
+-- the line of these parts of a rule: its prefixes, its EA length, its offset and whether it forwards
+unfoldable pub parts_line : RuleParts → List ℕ
+parts_line r = codes "rule " ++ prefix_text6 r.prefix6.bits r.prefix6.len ++ codes " " ++ prefix_text4 r.prefix4.bits r.prefix4.len ++ codes " ea " ++ decimal r.ea ++ codes " offset " ++ decimal r.offset ++ codes " forward " ++ flag_text r.forward ++ newline
+
+-- the line of a rule
+abbrev pub rule_line : Rule → List ℕ
+rule_line r = parts_line (record { prefix6 = r.prefix6; prefix4 = r.prefix4; ea = r.ea; offset = r.offset; forward = r.forward })
+
+-- the line of a default mapping rule with this prefix
+unfoldable pub dmr_prefix_line : Prefix6 → List ℕ
+dmr_prefix_line prefix = codes "dmr " ++ prefix_text6 prefix.bits prefix.len ++ newline
 
 -- the line of the default mapping rule
-unfoldable pub dmr_line : Dmr → List ℕ
-dmr_line dmr = codes "dmr " ++ prefix_text6 dmr.prefix.bits dmr.prefix.len ++ newline
+abbrev pub dmr_line : Dmr → List ℕ
+dmr_line dmr = dmr_prefix_line dmr.prefix
 
 -- the default mapping rule, and then one line a rule in their order
 abbrev pub book_text : List Rule → Dmr → List ℕ

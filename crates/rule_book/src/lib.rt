@@ -20,6 +20,7 @@ pub use change::Change;
 pub use fault::BookFault;
 pub use holder::one_holder;
 pub use laws::refusals_name_the_least;
+pub use lines::{RuleParts, dmr_line};
 pub use owner::owner_line;
 pub use view::{FarOf, RuleView};
 
