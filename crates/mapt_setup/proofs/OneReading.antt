@@ -10,8 +10,8 @@ use Rattle.octets.specs.PrefixText.{IsPrefixText4, IsPrefixText6}
 use Rattle.octets.specs.declared.address.Addr4.{Addr4}
 use Rattle.octets.specs.declared.prefix.Prefix4.{Prefix4}
 use Rattle.octets.specs.declared.prefix.Prefix6.{Prefix6}
-use Rattle.octets.specs.declared.mtus.Mtus.{Mtus}
-use Rattle.octets.proofs.OneValue.{one_addr4, one_prefix4, one_prefix6, same_prefix4, same_prefix6}
+use Rattle.octets.proofs.OneValue.{one_addr4, one_prefix4, one_prefix6}
+use Rattle.octets.proofs.Same.{same_prefix4, same_prefix6, same_mtus}
 use Rattle.map_rules.specs.Embedding.{is_embedding_prefix}
 use Rattle.map_rules.specs.Shape.{first_broken}
 use Rattle.map_rules.specs.declared.dmr.Dmr.{Dmr}
@@ -66,16 +66,6 @@ same_dmr : (d e : Dmr) → d.prefix ≡ e.prefix → d ≡ e
 same_dmr d e prefix = λ i. record {
   prefix = prefix i;
   valid = is_prop→PathP (λ j. is_embedding_prefix (prefix j).bits (prefix j).len ≡ true) (λ j. Bool-set _ _) d.valid e.valid i;
-}
-
-same_mtus : (m n : Mtus) → m.mtu4 ≡ n.mtu4 → m.mtu6 ≡ n.mtu6 → m ≡ n
-same_mtus m n mtu4 mtu6 = λ i. record {
-  mtu4 = mtu4 i;
-  mtu6 = mtu6 i;
-  least4 = is_prop→PathP (λ j. 1280 ≤ mtu4 j) (λ j. le_prop) m.least4 n.least4 i;
-  most4 = is_prop→PathP (λ j. mtu4 j ≤ 9000) (λ j. le_prop) m.most4 n.most4 i;
-  least6 = is_prop→PathP (λ j. 1280 ≤ mtu6 j) (λ j. le_prop) m.least6 n.least6 i;
-  most6 = is_prop→PathP (λ j. mtu6 j ≤ 9000) (λ j. le_prop) m.most6 n.most6 i;
 }
 
 one_required : (ms : Members) (x y : Required) → HasRequired ms x → HasRequired ms y → x ≡ y

@@ -1,9 +1,12 @@
 pub mod Cuts
 pub mod Gaps
 pub mod GroupNumbers
+pub mod Hex
 pub mod Numerals
 pub mod OneValue
 pub mod Prefixes
+pub mod Runs6
+pub mod Same
 pub mod Sizes
 pub mod Spelling4
 pub mod Spelling6

@@ -1,16 +1,10 @@
--- A text spells one value, and prefixes of the same bits and length are one.
-use Rattle.std.proofs.Common.{◌≡◌, ℕ, ◌<◌, ◌≤◌, List, Option, Some, sym, ◌∙◌, arith}
-use native.Mathlib.Nat.{ℕ_set}
-use native.Mathlib.Bridge.{le_prop}
-use mathlib.Core.HLevel.{is_prop→PathP}
+-- A text spells one value.
+use Rattle.std.proofs.Common.{◌≡◌, ℕ, ◌<◌, List, Option, Some, sym, ◌∙◌, arith}
 use Rattle.std.proofs.lemmas.Option.{same_Some}
-use Rattle.octets.specs.Bits.{IsClearFrom}
 use Rattle.octets.specs.Numeral.{slash}
 use Rattle.octets.specs.PrefixText.{IsPrefixText, IsPrefixText4, IsPrefixText6}
 use Rattle.octets.specs.Text4.{IsText4, addr4_at}
 use Rattle.octets.specs.Text6.{IsText6, addr6_at}
-use Rattle.octets.specs.declared.prefix.Prefix4.{Prefix4}
-use Rattle.octets.specs.declared.prefix.Prefix6.{Prefix6}
 use Rattle.octets.proofs.Cuts.{Lacks}
 use Rattle.octets.proofs.Prefixes.{both_are, prefix_again}
 use Rattle.octets.proofs.Spelling4.{addr4_again, no_slash4}
@@ -35,19 +29,3 @@ one_prefix4 text bits len other long = one_prefix IsText4 addr4_at 32 text bits 
 
 pub one_prefix6 : (text : List ℕ) (bits len other long : ℕ) → IsPrefixText6 text bits len → IsPrefixText6 text other long → (bits ≡ other) × (len ≡ long)
 one_prefix6 text bits len other long = one_prefix IsText6 addr6_at 128 text bits len other long (omega arith) no_slash6 addr6_again
-
-pub same_prefix4 : (p q : Prefix4) → p.bits ≡ q.bits → p.len ≡ q.len → p ≡ q
-same_prefix4 p q bits len = λ i. record {
-  bits = bits i;
-  len = len i;
-  within = is_prop→PathP (λ j. len j ≤ 32) (λ j. le_prop) p.within q.within i;
-  clear = is_prop→PathP (λ j. IsClearFrom 32 (bits j) (len j)) (λ j. ℕ_set _ _) p.clear q.clear i;
-}
-
-pub same_prefix6 : (p q : Prefix6) → p.bits ≡ q.bits → p.len ≡ q.len → p ≡ q
-same_prefix6 p q bits len = λ i. record {
-  bits = bits i;
-  len = len i;
-  within = is_prop→PathP (λ j. len j ≤ 128) (λ j. le_prop) p.within q.within i;
-  clear = is_prop→PathP (λ j. IsClearFrom 128 (bits j) (len j)) (λ j. ℕ_set _ _) p.clear q.clear i;
-}

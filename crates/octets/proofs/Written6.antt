@@ -1,10 +1,9 @@
 -- What is written of groups.
-use Rattle.std.proofs.Common.{drop-drop, ◌≡◌, ℕ, zero, suc, ◌+◌, ◌-◌, ◌*◌, ◌/◌, ◌%◌, ◌^◌, ◌≤◌, ◌<◌, false, List, [], ◌∷◌, ◌++◌, length, get_or, take, drop, replicate, refl, sym, ap, subst, ◌∙◌, append_assoc, arith, inl, inr}
+use Rattle.std.proofs.Common.{drop-drop, ◌≡◌, ℕ, zero, suc, ◌+◌, ◌-◌, ◌^◌, ◌≤◌, ◌<◌, false, List, [], ◌∷◌, ◌++◌, length, get_or, take, drop, replicate, refl, sym, ap, ◌∙◌, append_assoc, arith, inl, inr}
 use Rattle.std.specs.Prelude.{nat_le}
 use Rattle.std.specs.List.{flat_map}
-use Rattle.std.specs.Char.{digit_value}
-use Rattle.std.specs.Fmt.{digit_glyph}
-use Rattle.std.proofs.lemmas.Bool.Decides.{nat_tests}
+use Rattle.std.proofs.lemmas.Fmt.{digits_is_IsNumeral}
+use Rattle.octets.proofs.Hex.{hex-short}
 use Rattle.std.proofs.lemmas.Bool.{cases_lt, lt-ltb, le-ltb}
 use Rattle.std.proofs.lemmas.List.{append-nil, get_or-take, get_or-drop, get_or_past, length-take, length-drop, length-take-le, take-append-drop}
 use Rattle.octets.proofs.Cuts.{rest_is}
@@ -28,61 +27,12 @@ joined_at old (g ∷ gs) lt =
 
 -- ---- what is written is read again
 
-glyph_is : (d : ℕ) → d < 16 → digit_value (digit_glyph false d) ≡ d
-glyph_is d lt =
-    elim (cases_lt d 10) [
-      | inl low ↦ rw (lt-ltb d 10 low) (low_is d low)
-      | inr high ↦ rw (le-ltb d 10 high) (high_is d high lt)
-    ]
-  where
-    low_is : (d : ℕ) → d < 10 → digit_value (48 + d) ≡ d
-    low_is d low = grind (arith, nat_tests)
-
-    high_is : (d : ℕ) → 10 ≤ d → d < 16 → digit_value (87 + d) ≡ d
-    high_is d high lt = grind (arith, nat_tests)
-
-numeral_1 : (d : ℕ) → d < 16 → IsGroup (digit_glyph false d ∷ []) d
-numeral_1 d ld = record {
-  digits = (omega arith, (let t : digit_value (digit_glyph false d) < 16 = rw (glyph_is d ld) ld in t, tt));
-  short = omega arith;
-  value = rw (glyph_is d ld) (omega arith);
-}
-
-numeral_2 : (c d : ℕ) → c < 16 → d < 16 → IsGroup (digit_glyph false c ∷ digit_glyph false d ∷ []) (c * 16 + d)
-numeral_2 c d lc ld = record {
-  digits = (omega arith, (let t : digit_value (digit_glyph false c) < 16 = rw (glyph_is c lc) lc in t, (let t : digit_value (digit_glyph false d) < 16 = rw (glyph_is d ld) ld in t, tt)));
-  short = omega arith;
-  value = rw (glyph_is c lc, glyph_is d ld) (omega arith);
-}
-
-numeral_3 : (b c d : ℕ) → b < 16 → c < 16 → d < 16 → IsGroup (digit_glyph false b ∷ digit_glyph false c ∷ digit_glyph false d ∷ []) ((b * 16 + c) * 16 + d)
-numeral_3 b c d lb lc ld = record {
-  digits = (omega arith, (let t : digit_value (digit_glyph false b) < 16 = rw (glyph_is b lb) lb in t, (let t : digit_value (digit_glyph false c) < 16 = rw (glyph_is c lc) lc in t, (let t : digit_value (digit_glyph false d) < 16 = rw (glyph_is d ld) ld in t, tt))));
-  short = omega arith;
-  value = rw (glyph_is b lb, glyph_is c lc, glyph_is d ld) (omega arith);
-}
-
-numeral_4 : (a b c d : ℕ) → a < 16 → b < 16 → c < 16 → d < 16 → IsGroup (digit_glyph false a ∷ digit_glyph false b ∷ digit_glyph false c ∷ digit_glyph false d ∷ []) (((a * 16 + b) * 16 + c) * 16 + d)
-numeral_4 a b c d la lb lc ld = record {
-  digits = (omega arith, (let t : digit_value (digit_glyph false a) < 16 = rw (glyph_is a la) la in t, (let t : digit_value (digit_glyph false b) < 16 = rw (glyph_is b lb) lb in t, (let t : digit_value (digit_glyph false c) < 16 = rw (glyph_is c lc) lc in t, (let t : digit_value (digit_glyph false d) < 16 = rw (glyph_is d ld) ld in t, tt)))));
-  short = omega arith;
-  value = rw (glyph_is a la, glyph_is b lb, glyph_is c lc, glyph_is d ld) (omega arith);
-}
-
 -- a group that is written spells its number
 group_is : (g : ℕ) → g < 65536 → IsGroup (group_text g) g
-unfolding group_text
 group_is g lt =
-    elim (cases_lt g 16) [
-      | inl a ↦ let v : g % 16 ≡ g = omega arith in rw (lt-ltb g 16 a) (subst (λ (n : ℕ). IsGroup (digit_glyph false (g % 16) ∷ []) n) v (numeral_1 (g % 16) (omega arith)))
-      | inr a ↦ elim (cases_lt g 256) [
-        | inl b ↦ let v : g / 16 % 16 * 16 + g % 16 ≡ g = omega arith in rw (le-ltb g 16 a, lt-ltb g 256 b) (subst (λ (n : ℕ). IsGroup (digit_glyph false (g / 16 % 16) ∷ digit_glyph false (g % 16) ∷ []) n) v (numeral_2 (g / 16 % 16) (g % 16) (omega arith) (omega arith)))
-        | inr b ↦ elim (cases_lt g 4096) [
-          | inl c ↦ let v : (g / 256 % 16 * 16 + g / 16 % 16) * 16 + g % 16 ≡ g = omega arith in rw (le-ltb g 16 a, le-ltb g 256 b, lt-ltb g 4096 c) (subst (λ (n : ℕ). IsGroup (digit_glyph false (g / 256 % 16) ∷ digit_glyph false (g / 16 % 16) ∷ digit_glyph false (g % 16) ∷ []) n) v (numeral_3 (g / 256 % 16) (g / 16 % 16) (g % 16) (omega arith) (omega arith) (omega arith)))
-          | inr c ↦ let v : ((g / 4096 * 16 + g / 256 % 16) * 16 + g / 16 % 16) * 16 + g % 16 ≡ g = omega arith in rw (le-ltb g 16 a, le-ltb g 256 b, le-ltb g 4096 c) (subst (λ (n : ℕ). IsGroup (digit_glyph false (g / 4096) ∷ digit_glyph false (g / 256 % 16) ∷ digit_glyph false (g / 16 % 16) ∷ digit_glyph false (g % 16) ∷ []) n) v (numeral_4 (g / 4096) (g / 256 % 16) (g / 16 % 16) (g % 16) (omega arith) (omega arith) (omega arith) (omega arith)))
-        ]
-      ]
-    ]
+    let fits : g < 16 ^ 64 = omega arith in
+    let is = digits_is_IsNumeral 16 false (omega arith) (omega arith) g fits in
+    record { digits = is.0; short = hex-short g lt; value = sym is.1 }
 
 -- each group has 16 bits
 pub AreSmall : List ℕ → Type 0
@@ -120,9 +70,9 @@ zeros_are (g ∷ gs) =
       | inr t ↦ rw t.0 (omega arith, refl)
     ]
 
-record IsZeros (gs : List ℕ) (run : Run) : Type 0 where
-  within : run.start + run.len ≤ length gs
-  zeros : take run.len (drop run.start gs) ≡ replicate run.len 0
+pub record IsZeros (gs : List ℕ) (run : Run) : Type 0 where
+  pub within : run.start + run.len ≤ length gs
+  pub zeros : take run.len (drop run.start gs) ≡ replicate run.len 0
 
 longer_is : (g : ℕ) (gs : List ℕ) (run : Run) → IsZeros gs run → IsZeros (g ∷ gs) (longer (zeros_first (g ∷ gs)) run)
 longer_is g gs run h =
@@ -132,7 +82,7 @@ longer_is g gs run h =
       | inr t ↦ rw (t, add-one) (record { within = omega (arith, h.within); zeros = h.zeros })
     ]
 
-run_is : (gs : List ℕ) → IsZeros gs (longest_run gs)
+pub run_is : (gs : List ℕ) → IsZeros gs (longest_run gs)
 run_is [] = record { within = omega arith; zeros = refl }
 run_is (g ∷ gs) = longer_is g gs (longest_run gs) (run_is gs)
 

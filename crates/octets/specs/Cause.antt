@@ -1,5 +1,5 @@
 -- The causes in the order in which they are tested.
-use Rattle.std.specs.Prelude.{ℕ, List, [], ◌∷◌, ◌-◌, ◌==◌, if◌then◌else◌, Option, None, slice_get}
+use Rattle.std.specs.Prelude.{ℕ, List, [], ◌∷◌, ◌-◌, ◌<◌, ◌==◌, if◌then◌else◌, Option, None, slice_get}
 use Rattle.octets.specs.declared.cause.Cause.{Cause}
 use Rattle.octets.specs.declared.cause.Cause.TheVariants.{NotIp, Truncated, BadHeader, BadHeaderSum, BadDestination, SourceRoute, UnsupportedProtocol, IcmpFragment, BadTransport, IcmpSum, IcmpKind, BadInner, NoUdpSum, NoBasicRule, WrongDestination, FragmentsFull, Spoofed, NotDefault, NoOwner, NoBinding, NoPort, TtlSpent, TooBig}
 
@@ -36,3 +36,11 @@ causes = NotIp ∷ Truncated ∷ BadHeader ∷ BadHeaderSum ∷ BadDestination �
 -- the cause with this number
 abbrev pub cause_of : ℕ → Option Cause
 cause_of n = if n == 0 then None else slice_get causes (n - 1)
+
+-- of what holds by cause, nothing
+abbrev pub HoldsNone : (Cause → Type 0) → Type 0
+HoldsNone Holds = (c : Cause) → ¬ Holds c
+
+-- of what holds by cause, this one and none with a lesser number
+abbrev pub IsLeast : (Cause → Type 0) → Cause → Type 0
+IsLeast Holds cause = Holds cause × ((lesser : Cause) → number_of lesser < number_of cause → ¬ Holds lesser)

@@ -5,5 +5,6 @@ pub mod Field
 pub mod Fragment
 pub mod Numeral
 pub mod PrefixText
+pub mod Run6
 pub mod Text4
 pub mod Text6

@@ -1,7 +1,7 @@
 -- An IPv6 address as text (RFC 4291, section 2.2, without the dotted tail), and the one text in which it
 -- is written (RFC 5952, section 4).
-use Rattle.std.specs.Prelude.{◌≡◌, ℕ, ◌+◌, ◌-◌, ◌*◌, ◌/◌, ◌%◌, ◌^◌, ◌≤◌, ◌⊎◌, List, [], ◌∷◌, ◌++◌, length, take, drop, replicate, fold, zero, suc, Option, Some, None, option_map, ◌&&◌, false, nat_lt, nat_le, ◌==◌, if◌then◌else◌}
-use Rattle.std.specs.Fmt.{digit_glyph}
+use Rattle.std.specs.Prelude.{◌≡◌, ℕ, ◌+◌, ◌-◌, ◌*◌, ◌^◌, ◌≤◌, ◌⊎◌, List, [], ◌∷◌, ◌++◌, length, take, drop, replicate, fold, zero, suc, Option, Some, None, option_map, ◌&&◌, false, nat_lt, nat_le, ◌==◌, if◌then◌else◌}
+use Rattle.std.specs.Fmt.{digits}
 use Rattle.octets.specs.Bits.{bits_at}
 use Rattle.octets.specs.Numeral.{◌>>=◌, IsShortNumeral, colon, cut_at, numeral_at, or_else}
 
@@ -86,18 +86,9 @@ abbrev pub groups_of : ℕ → List ℕ
 groups_of n =
     bits_at 128 n 0 16 ∷ bits_at 128 n 16 16 ∷ bits_at 128 n 32 16 ∷ bits_at 128 n 48 16 ∷ bits_at 128 n 64 16 ∷ bits_at 128 n 80 16 ∷ bits_at 128 n 96 16 ∷ bits_at 128 n 112 16 ∷ []
 
--- the four hexadecimal digits of a group, in lower case
-abbrev pub four_digits : ℕ → List ℕ
-four_digits g =
-    digit_glyph false (g / 4096) ∷ digit_glyph false (g / 256 % 16) ∷ digit_glyph false (g / 16 % 16) ∷ digit_glyph false (g % 16) ∷ []
-
--- how many zeros lead them, though one digit always stays
-abbrev pub leading_zeros : ℕ → ℕ
-leading_zeros g = if nat_lt g 16 then 3 else (if nat_lt g 256 then 2 else (if nat_lt g 4096 then 1 else 0))
-
--- a group without leading zeros
-unfoldable pub group_text : ℕ → List ℕ
-group_text g = drop (leading_zeros g) (four_digits g)
+-- a group: its hexadecimal digits, in lower case and without leading zeros (sections 4.1 and 4.3)
+abbrev pub group_text : ℕ → List ℕ
+group_text g = digits 16 false g
 
 -- groups with a colon between any two
 abbrev pub joined : List ℕ → List ℕ

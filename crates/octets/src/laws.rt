@@ -4,6 +4,7 @@ ghost use Rattle.std.specs.Prelude.{◌≡◌, ℕ, ◌≤◌, ◌<◌, ◌^◌,
 ghost use Rattle.octets.specs.Bits.{IsClearFrom};
 ghost use Rattle.octets.specs.Text4.{IsText4, text4};
 ghost use Rattle.octets.specs.Text6.{IsText6, text6};
+ghost use Rattle.octets.specs.Run6.{IsWritten6};
 ghost use Rattle.octets.specs.PrefixText.{IsPrefixText4, IsPrefixText6, prefix_text4, prefix_text6};
 
 /// The text that is written of an address or a prefix spells it, so that it is read again.
@@ -26,4 +27,12 @@ pub fn a_text_spells_one_value()
 pub fn an_ipv4_text_is_the_written_one()
     ensures addr4 { (text : List ℕ) (n : ℕ) → IsText4 text n → text ≡ text4 n }
     ensures prefix4 { (text : List ℕ) (bits len : ℕ) → IsPrefixText4 text bits len → text ≡ prefix_text4 bits len }
+{}
+
+/// The text that is written of an IPv6 address is the one that RFC 5952, section 4.2 asks for: `::` stands
+/// for the run of groups of zeros that has at least two groups, none longer and none earlier as long, where
+/// there is one. No other text is so.
+pub fn an_ipv6_text_is_shortened_by_the_rules()
+    ensures written { (n : ℕ) → IsWritten6 (text6 n) n }
+    ensures only { (text : List ℕ) (n : ℕ) → IsWritten6 text n → text ≡ text6 n }
 {}

@@ -5,6 +5,7 @@
 mod address;
 mod bytes;
 mod cause;
+mod equal;
 mod laws;
 mod memory;
 mod mtus;
@@ -20,7 +21,11 @@ mod text6;
 pub use address::{Addr4, Addr6, bits_of};
 pub use bytes::Bytes;
 pub use cause::{Cause, Fault};
-pub use laws::{a_text_spells_one_value, an_ipv4_text_is_the_written_one, written_texts_are_read};
+pub use equal::{addresses_are_in_the_order_of_numbers, equal_values_are_the_same};
+pub use laws::{
+    a_text_spells_one_value, an_ipv4_text_is_the_written_one,
+    an_ipv6_text_is_shortened_by_the_rules, written_texts_are_read,
+};
 pub use memory::NoMemory;
 pub use mtus::Mtus;
 pub use name::Name;

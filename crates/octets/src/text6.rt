@@ -3,7 +3,7 @@ ghost use Rattle.octets.specs.Bits.{bits_at};
 ghost use Rattle.octets.specs.Numeral.{colon, numeral_at};
 ghost use Rattle.std.specs.List.{flat_map};
 ghost use Rattle.std.specs.Fmt.{digit_glyph};
-ghost use Rattle.octets.specs.Text6.{IsText6, gap_at, groups_from, part_at, around_gap, whole_at, addr6_at, groups_of, leading_zeros, group_text, joined, longest_run, text6};
+ghost use Rattle.octets.specs.Text6.{IsText6, gap_at, groups_from, part_at, around_gap, whole_at, addr6_at, groups_of, group_text, joined, longest_run, text6};
 
 use crate::numeral::{cut, numeral};
 use crate::text4::BadText;
@@ -162,8 +162,8 @@ fn hex_digit(digit: u8) -> u8
     }
 }
 
-/// Adds a group without leading zeros at the end. After a refusal a part of it may stand there.
-#[tactic(auto, unfolding(crate::specs::Text6::group_text))]
+/// Adds a group without leading zeros at the end. One digit always stays. After a refusal a part of it
+/// may stand there.
 fn push_group(text: &mut Bytes, group: u16) -> Result<(), NoMemory>
     ensures { OnOk result (text.new ≡ text.old ++ group_text group) }
 {
@@ -173,14 +173,7 @@ fn push_group(text: &mut Bytes, group: u16) -> Result<(), NoMemory>
         hex_digit((group / 16 % 16) as u8),
         hex_digit((group % 16) as u8),
     ];
-    text.extend(&digits[leading_zeros(group)..])
-}
-
-/// How many of a group's four digits are zeros before the others. One digit always stays.
-fn leading_zeros(group: u16) -> usize
-    ensures { result ≡ leading_zeros group }
-{
-    if group < 16 {
+    let leading_zeros = if group < 16 {
         3
     } else if group < 256 {
         2
@@ -188,7 +181,8 @@ fn leading_zeros(group: u16) -> usize
         1
     } else {
         0
-    }
+    };
+    text.extend(&digits[leading_zeros..])
 }
 
 /// Adds a colon and the group at the end, for each group.
