@@ -1,0 +1,9 @@
+pub mod Timer
+pub mod Binding
+pub mod State
+pub mod Claim
+pub mod Copied
+pub mod Fragment
+pub mod Remote
+pub mod Machine
+pub mod Sound

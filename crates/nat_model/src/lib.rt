@@ -1,0 +1,15 @@
+//! The NAPT44 of a customer edge as a plain machine over lists: bindings of inside ends to outside ports,
+//! their timers, and the fragments that wait (RFC 4787, RFC 5382, RFC 5508, RFC 6146).
+#![tactic(auto)]
+
+mod answer;
+mod ask;
+mod binding;
+mod bindings;
+mod entry;
+
+pub use answer::Answer;
+pub use ask::{Ask, End4, Far, Part};
+pub use binding::Binding;
+pub use bindings::Bindings;
+pub use entry::{Entry, Mark, Who};
