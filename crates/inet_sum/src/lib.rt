@@ -3,7 +3,7 @@
 #![tactic(auto)]
 
 ghost use Rattle.std.specs.Prelude.{◌≡◌, ◌+◌, ◌*◌, ◌%◌, ◌^◌, ◌<◌, ◌≤◌, length};
-ghost use Rattle.inet_sum.specs.Sum.{words, folded, check_sum, adjusted};
+ghost use Rattle.inet_sum.specs.Sum.{words, folded, check_sum, adjusted, as_udp};
 
 /// All 16 bits set. Sums are alike where they differ by a multiple of it.
 const ONES: u64 = 65535;
@@ -52,6 +52,13 @@ pub fn adjust(c: u16, old: u64, new: u64) -> u16
     ensures alike { (result + new) % 65535 ≡ (c + old) % 65535 }
 {
     ((u64::from(c) + old % ONES + (ONES - new % ONES)) % ONES) as u16
+}
+
+/// A check sum as UDP writes it: 0 says that there is none, and 65535 stands in its place (RFC 768).
+pub fn as_udp(sum: u16) -> u16
+    ensures { result ≡ as_udp sum }
+{
+    if sum == 0 { u16::MAX } else { sum }
 }
 
 #[cfg(test)]

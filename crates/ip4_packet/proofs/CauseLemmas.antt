@@ -10,7 +10,7 @@ use Rattle.ip4_packet.specs.Grammar.{header_len, total_len, option_octets, HasFi
 use Rattle.ip4_packet.specs.Causes.{IsTruncated4, HasCause4, HasNoCause4, IsCause4, StaysRead}
 use Rattle.std.proofs.lemmas.List.{take-append-le, get_or_append_left, length-append}
 use Rattle.std.proofs.lemmas.Bool.{cases_lt}
-use Rattle.ip4_packet.proofs.PartLemmas.{number-append, part-append}
+use Rattle.octets.proofs.Parts.{number-append, part-append}
 
 -- octets that have none of the five causes below a number have no cause below it
 pub spared : (octets : List ℕ) (n : ℕ)

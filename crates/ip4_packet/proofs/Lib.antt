@@ -1,4 +1,3 @@
 pub mod CauseLemmas
 pub mod OptionLemmas
-pub mod PartLemmas
 pub mod WrittenLemmas

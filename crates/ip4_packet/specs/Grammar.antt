@@ -1,5 +1,5 @@
 -- What octets hold an IPv4 packet (RFC 791, section 3.1). Octets after the total length belong to no packet.
-use Rattle.std.specs.Prelude.{◌≡◌, ℕ, ◌-◌, ◌*◌, ◌/◌, ◌%◌, ◌≤◌, List, length, Some}
+use Rattle.std.specs.Prelude.{◌≡◌, ℕ, ◌-◌, ◌*◌, ◌/◌, ◌%◌, ◌≤◌, List, length, take, Some}
 use Rattle.octets.specs.Bits.{bits_at, bit_of}
 use Rattle.octets.specs.Field.{octet, word, quad, part}
 use Rattle.ip4_packet.specs.declared.head.Head4.{Head4}
@@ -27,6 +27,10 @@ option_octets octets = part octets 20 (header_len octets - 20)
 -- the payload: what stands between the header and the total length
 abbrev pub payload_of : Head4 → List ℕ → List ℕ
 payload_of h octets = part octets h.head_len (h.total - h.head_len)
+
+-- the packet without the octets after its total length
+abbrev pub trimmed4 : Head4 → List ℕ → List ℕ
+trimmed4 h octets = take h.total octets
 
 -- the fixed fields of the header are these
 pub record HasFields4 (h : Head4) (octets : List ℕ) : Type 0 where

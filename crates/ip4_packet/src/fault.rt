@@ -2,14 +2,11 @@
 
 ghost use Rattle.std.specs.Prelude.{◌≡◌, ◌<◌, ◌≤◌, ◌↔◌, IsTrue, length, take};
 ghost use Rattle.inet_sum.specs.Sum.{IsRight};
-ghost use Rattle.octets.specs.Bits.{bit_of};
-ghost use Rattle.octets.specs.Fragment.{IsWrongFragment};
 ghost use Rattle.ip4_packet.specs.Grammar.{header_len, total_len};
 ghost use Rattle.ip4_packet.specs.Causes.{IsNotIp4, IsTruncated4, IsNoDestination4};
 
-use crate::field::word_at;
-use crate::layout::{GROUP, HEADER_LEN, MAX_LEN, TOTAL_AT, VERSION, VERSION_AT};
-use octets::Addr4;
+use crate::layout::{GROUP, HEADER_LEN, TOTAL_AT, VERSION, VERSION_AT};
+use octets::{Addr4, word_at};
 
 /// The declared length of the header in octets, 0 to 60, a multiple of 4.
 pub fn header_len(octets: &[u8]) -> usize
@@ -40,15 +37,6 @@ pub fn is_truncated(octets: &[u8]) -> bool
 {
     let len = octets.len();
     len < HEADER_LEN || len < header_len(octets) || len < total_len(octets)
-}
-
-/// The fragment ends past the greatest packet, or more fragments follow one that has a broken unit of
-/// 8 octets (RFC 791, section 3.2).
-pub fn is_wrong_fragment(offset: u16, more: bool, len: usize) -> bool
-    requires { len < 65536 }
-    ensures { IsTrue result ↔ IsWrongFragment offset (bit_of more) len }
-{
-    usize::from(offset) * 8 + len > MAX_LEN || more && len % 8 != 0
 }
 
 /// The header's words, its sum among them, fold to 65535 (RFC 1071).

@@ -25,8 +25,6 @@ pub const DESTINATION_AT: usize = 16;
 
 /// The version.
 pub const VERSION: u8 = 4;
-/// Octets of the greatest packet.
-pub const MAX_LEN: usize = 65535;
 /// The first four bits of a group address.
 pub const GROUP: u32 = 14;
 /// Version 4, and five words of 32 bits of header.

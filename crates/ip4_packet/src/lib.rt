@@ -4,7 +4,6 @@
 
 mod embedded;
 mod fault;
-mod field;
 mod head;
 mod layout;
 mod options;

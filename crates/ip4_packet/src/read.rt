@@ -5,22 +5,20 @@ ghost use Rattle.octets.specs.Field.{octet};
 ghost use Rattle.octets.specs.declared.cause.Cause.{Cause as AnyCause};
 ghost use Rattle.ip4_packet.specs.declared.head.Head4.{Head4 as Header};
 ghost use Rattle.ip4_packet.specs.Options.{routed_in};
-ghost use Rattle.ip4_packet.specs.Grammar.{header_len, total_len, option_octets, more_flag, fragment_offset, payload_of, HasFields4, Is4};
+ghost use Rattle.ip4_packet.specs.Grammar.{header_len, total_len, option_octets, more_flag, fragment_offset, payload_of, trimmed4, HasFields4, Is4};
 ghost use Rattle.ip4_packet.specs.Causes.{IsTruncated4, IsBadHeader4, HasNoCause4, IsCause4, StaysRead};
 ghost use Rattle.octets.specs.Bits.{bit_of};
 
 use crate::fault::{
-    has_right_sum, header_len, is_no_destination, is_not_ip, is_truncated, is_wrong_fragment,
-    total_len,
+    has_right_sum, header_len, is_no_destination, is_not_ip, is_truncated, total_len,
 };
-use crate::field::{quad_at, word_at};
 use crate::head::Head4;
 use crate::layout::{
     DESTINATION_AT, DONT_FRAGMENT, FRAGMENT_AT, HEADER_LEN, ID_AT, MORE_FRAGMENTS, OFFSETS,
     PROTO_AT, SOURCE_AT, TOS_AT, TTL_AT,
 };
 use crate::options;
-use octets::{Addr4, Cause};
+use octets::{Addr4, Cause, is_wrong_fragment, quad_at, word_at};
 
 /// The fragment offset, in units of 8 octets.
 fn fragment_offset(octets: &[u8]) -> u16
@@ -121,5 +119,24 @@ impl Head4 {
         ensures longer { (more : List ℕ) → StaysRead result octets.now (octets.now ++ more) }
     {
         decided(octets)
+    }
+
+    /// The packet without the octets after its total length, which belong to no packet. The octets are those
+    /// of which the header was read.
+    pub fn trimmed<'a>(&self, octets: &'a [u8]) -> &'a [u8]
+        requires { self.now.total ≤ length octets.now }
+        ensures { result.now ≡ trimmed4 self.now octets.now }
+    {
+        &octets[..usize::from(self.total)]
+    }
+
+    /// The payload: what stands between the header and the total length. The octets are those of which the
+    /// header was read.
+    pub fn payload<'a>(&self, octets: &'a [u8]) -> &'a [u8]
+        requires lengths { self.now.head_len ≤ self.now.total }
+        requires whole { self.now.total ≤ length octets.now }
+        ensures { result.now ≡ payload_of self.now octets.now }
+    {
+        &octets[usize::from(self.head_len)..usize::from(self.total)]
     }
 }

@@ -10,7 +10,7 @@ use Rattle.octets.specs.Field.{octet, sixteen}
 use Rattle.ip6_packet.specs.declared.head.Head6.{Head6}
 use Rattle.ip6_packet.specs.Grammar.{payload_len, payload_of, chain_of, HasFields6, Is6}
 use Rattle.ip6_packet.specs.Causes.{IsTruncated6, HasCause6, HasNoCause6, IsCause6, StaysRead}
-use Rattle.ip6_packet.proofs.PartLemmas.{number-append, part-append}
+use Rattle.octets.proofs.Parts.{number-append, part-append}
 
 -- octets that have none of the four causes below a number have no cause below it
 pub spared : (octets : List ℕ) (n : ℕ)

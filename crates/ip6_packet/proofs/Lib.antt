@@ -1,4 +1,3 @@
 pub mod CauseLemmas
 pub mod ChainLemmas
-pub mod PartLemmas
 pub mod WrittenLemmas

@@ -11,7 +11,7 @@ use Rattle.ip6_packet.specs.Chain.{is_sized, frag_of, chain_in}
 use Rattle.ip6_packet.specs.Grammar.{payload_len, HasFields6, Is6}
 use Rattle.ip6_packet.specs.Causes.{IsNotIp6, IsTruncated6, IsBadHeader6, IsWrongFrag6, IsNoDestination6, HasNoCause6, IsSound6}
 use Rattle.ip6_packet.proofs.ChainLemmas.{tail}
-use Rattle.ip6_packet.proofs.PartLemmas.{number_back}
+use Rattle.octets.proofs.Parts.{number_back}
 use Rattle.ip6_packet.proofs.CauseLemmas.{spared, below}
 
 -- a packet whose fields and destination are sound has no cause

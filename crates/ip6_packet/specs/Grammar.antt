@@ -1,5 +1,5 @@
 -- What octets hold an IPv6 packet (RFC 8200). Octets after the payload length belong to no packet.
-use Rattle.std.specs.Prelude.{◌≡◌, ℕ, ◌+◌, ◌/◌, ◌≤◌, List, length, Option, Some}
+use Rattle.std.specs.Prelude.{◌≡◌, ℕ, ◌+◌, ◌/◌, ◌≤◌, List, length, take, Option, Some}
 use Rattle.octets.specs.Bits.{bits_at}
 use Rattle.octets.specs.Field.{octet, word, sixteen, part}
 use Rattle.ip6_packet.specs.declared.head.Head6.{Head6}
@@ -25,6 +25,10 @@ pub record HasFields6 (h : Head6) (octets : List ℕ) : Type 0 where
 -- the payload: the octets of the upper protocol
 abbrev pub payload_of : Head6 → List ℕ → List ℕ
 payload_of h octets = part octets h.start h.length
+
+-- the packet without the octets after its payload length
+abbrev pub trimmed6 : Head6 → List ℕ → List ℕ
+trimmed6 h octets = take (h.start + h.length) octets
 
 -- the octets hold headers with these fields, and this payload
 pub record Is6 (h : Head6) (payload octets : List ℕ) : Type 0 where

@@ -4,13 +4,13 @@ ghost use Rattle.std.specs.Prelude.{◌≡◌, ◌+◌, ◌<◌, ◌≤◌, ◌^
 ghost use Rattle.octets.specs.Field.{octet};
 ghost use Rattle.ip6_packet.specs.Chain.{is_sized, route_at, frag_of, fragment_end, end_of, chain_in, IsFirstHeader, HasNoHeader};
 
-use crate::field::{quad_at, word_at};
 use crate::head::Frag6;
 use crate::layout::{
     DESTINATION_OPTIONS, EXTENSION_LEN_AT, EXTENSION_NEXT_AT, EXTENSION_UNIT, FRAGMENT,
     FRAGMENT_ID_AT, FRAGMENT_LEN, FRAGMENT_OFFSET_AT, HEADER_LEN, HOP_BY_HOP, ROUTING,
     SEGMENTS_LEFT_AT,
 };
+use octets::{quad_at, word_at};
 
 /// What a chain leads to.
 #[derive(Clone, Copy)]

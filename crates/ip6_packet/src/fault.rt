@@ -1,15 +1,12 @@
 //! For what octets are refused as an IPv6 packet, one test a cause.
 
 ghost use Rattle.std.specs.Prelude.{◌≡◌, ◌+◌, ◌<◌, ◌≤◌, ◌↔◌, IsTrue, length};
-ghost use Rattle.octets.specs.Bits.{bit_of};
-ghost use Rattle.octets.specs.Fragment.{IsWrongFragment};
 ghost use Rattle.ip6_packet.specs.Grammar.{payload_len};
 ghost use Rattle.ip6_packet.specs.Causes.{IsNotIp6, IsTruncated6, IsWrongFrag6, IsNoDestination6};
 
-use crate::field::word_at;
 use crate::head::Frag6;
-use crate::layout::{GROUP, HEADER_LEN, LENGTH_AT, MAX_LEN, VERSION, VERSION_AT};
-use octets::Addr6;
+use crate::layout::{GROUP, HEADER_LEN, LENGTH_AT, VERSION, VERSION_AT};
+use octets::{Addr6, is_wrong_fragment, word_at};
 
 /// The declared length of what stands behind the IPv6 header, in octets.
 pub fn payload_len(octets: &[u8]) -> usize
@@ -34,15 +31,6 @@ pub fn is_truncated(octets: &[u8]) -> bool
     octets.len() < HEADER_LEN || octets.len() < HEADER_LEN + payload_len(octets)
 }
 
-/// The fragment ends past the greatest payload, or more fragments follow one that has a broken unit of
-/// 8 octets (RFC 8200, section 4.5).
-fn is_wrong_fragment(frag: Frag6, len: usize) -> bool
-    requires { len < 65536 }
-    ensures { IsTrue result ↔ IsWrongFragment frag.offset (bit_of frag.more) len }
-{
-    usize::from(frag.offset) * 8 + len > MAX_LEN || frag.more && len % 8 != 0
-}
-
 /// There is a Fragment Header, and it disagrees with the length of the payload behind it.
 pub fn is_wrong_frag(frag: Option<Frag6>, len: usize) -> bool
     requires { len < 65536 }
@@ -50,7 +38,7 @@ pub fn is_wrong_frag(frag: Option<Frag6>, len: usize) -> bool
 {
     match frag {
         None => false,
-        Some(frag) => is_wrong_fragment(frag, len),
+        Some(frag) => is_wrong_fragment(frag.offset, frag.more, len),
     }
 }
 

@@ -18,8 +18,6 @@ pub const DESTINATION_AT: usize = 24;
 
 /// The version.
 pub const VERSION: u8 = 6;
-/// The greatest payload length.
-pub const MAX_LEN: usize = 65535;
 /// The first octet of a group address.
 pub const GROUP: u128 = 0xff;
 

@@ -3,9 +3,7 @@
 #![tactic(auto)]
 
 mod chain;
-mod embedded;
 mod fault;
-mod field;
 mod head;
 mod layout;
 mod read;

@@ -4,15 +4,14 @@ ghost use Rattle.std.specs.Prelude.{◌≡◌, ◌+◌, ◌/◌, ◌≤◌, ◌�
 ghost use Rattle.octets.specs.Field.{octet, sixteen};
 ghost use Rattle.octets.specs.declared.cause.Cause.{Cause as AnyCause};
 ghost use Rattle.ip6_packet.specs.declared.head.Head6.{Head6 as Header};
-ghost use Rattle.ip6_packet.specs.Grammar.{payload_len, chain_of, payload_of, HasFields6, Is6};
+ghost use Rattle.ip6_packet.specs.Grammar.{payload_len, chain_of, payload_of, trimmed6, HasFields6, Is6};
 ghost use Rattle.ip6_packet.specs.Causes.{IsTruncated6, IsBadHeader6, HasNoCause6, IsCause6, StaysRead};
 
 use crate::chain::{Chain, chain_of};
 use crate::fault::{is_no_destination, is_not_ip, is_truncated, is_wrong_frag, payload_len};
-use crate::field::{sixteen_at, word_at};
 use crate::head::Head6;
 use crate::layout::{DESTINATION_AT, HEADER_LEN, HOP_AT, NEXT_AT, SOURCE_AT, VERSION_AT};
-use octets::{Addr6, Cause};
+use octets::{Addr6, Cause, sixteen_at, word_at};
 
 /// What the chain of extension headers leads to, where it ends within the payload and the fragment fields
 /// agree with what is left of it. None where they don't.
@@ -31,7 +30,7 @@ fn agreed(octets: &[u8]) -> Option<Chain>
 }
 
 /// The fields of the headers, the chain of which leads to this.
-pub fn fields(octets: &[u8], chain: Chain) -> Head6
+fn fields(octets: &[u8], chain: Chain) -> Head6
     requires long { 40 ≤ length octets.now }
     requires version { octet octets.now 0 / 16 ≡ 6 }
     requires within { (40 ≤ chain.start) × (chain.start ≤ 40 + payload_len octets.now) }
@@ -92,5 +91,23 @@ impl Head6 {
         ensures longer { (more : List ℕ) → StaysRead result octets.now (octets.now ++ more) }
     {
         decided(octets)
+    }
+
+    /// The packet without the octets after its payload length, which belong to no packet. The octets are
+    /// those of which the headers were read.
+    pub fn trimmed<'a>(&self, octets: &'a [u8]) -> &'a [u8]
+        requires { self.now.start + self.now.length ≤ length octets.now }
+        ensures { result.now ≡ trimmed6 self.now octets.now }
+    {
+        &octets[..self.start as usize + usize::from(self.length)]
+    }
+
+    /// The payload: the octets of the upper protocol. The octets are those of which the headers were read.
+    pub fn payload<'a>(&self, octets: &'a [u8]) -> &'a [u8]
+        requires { self.now.start + self.now.length ≤ length octets.now }
+        ensures { result.now ≡ payload_of self.now octets.now }
+    {
+        let start = self.start as usize;
+        &octets[start..start + usize::from(self.length)]
     }
 }

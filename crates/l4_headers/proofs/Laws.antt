@@ -2,12 +2,13 @@
 use Rattle.std.proofs.Common.{◌≡◌, ℕ, ◌+◌, ◌%◌, ◌<◌, ◌≤◌, ◌↔◌, ◌⊎◌, inl, inr, Bool, true, false, if◌then◌else◌, List, length, ap, ◌∙◌, refl, arith}
 use Rattle.octets.specs.declared.proto.Proto.{Proto}
 use Rattle.octets.specs.declared.proto.Proto.TheVariants.{Tcp, Udp, Icmp}
-use Rattle.octets.specs.Field.{octet, word}
+use Rattle.octets.specs.Field.{octet, word, with_word}
+use Rattle.octets.proofs.Words.{length-with_word, octet-with_word, word-with_word, word-with_word_other}
 use Rattle.inet_sum.specs.Sum.{words, folded, adjusted, as_udp}
 use Rattle.inet_sum.proofs.Laws.{right_adjusted, right_as_udp}
 use Rattle.l4_headers.specs.declared.ports.Ports.{Ports}
-use Rattle.l4_headers.specs.Transport.{header_octets, IsBadTransport, is_query, l4_of, with_word, with_l4}
-use Rattle.l4_headers.proofs.Words.{length-with_word, octet-with_word, word-with_word, word-with_word_other, words-with_word}
+use Rattle.l4_headers.specs.Transport.{header_octets, IsBadTransport, is_query, l4_of, with_l4}
+use Rattle.l4_headers.proofs.Words.{words-with_word}
 
 -- ports at 0 and 2, and a sum at a later place
 with_ports : ℕ → Ports → ℕ → List ℕ → List ℕ

@@ -1,1 +1,2 @@
+pub mod PseudoHeader
 pub mod Transport

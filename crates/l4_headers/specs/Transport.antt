@@ -1,8 +1,8 @@
 -- Transport headers by their fields: TCP (RFC 9293 section 3.1), UDP (RFC 768), ICMP (RFC 792, RFC 4443).
-use Rattle.std.specs.Prelude.{◌≢◌, ℕ, ◌+◌, ◌*◌, ◌/◌, ◌<◌, ◌⊎◌, Bool, IsTrue, ◌==◌, ◌||◌, if◌then◌else◌, List, ◌++◌, length, take, drop}
+use Rattle.std.specs.Prelude.{◌≢◌, ℕ, ◌*◌, ◌/◌, ◌<◌, ◌⊎◌, Bool, IsTrue, ◌==◌, ◌||◌, if◌then◌else◌, List, length}
 use Rattle.octets.specs.declared.proto.Proto.{Proto}
 use Rattle.octets.specs.declared.proto.Proto.TheVariants.{Tcp, Udp, Icmp}
-use Rattle.octets.specs.Field.{octet, word, in_word}
+use Rattle.octets.specs.Field.{octet, word, with_word}
 use Rattle.l4_headers.specs.declared.ports.Ports.{Ports}
 use Rattle.l4_headers.specs.declared.ports.L4.{L4}
 
@@ -43,10 +43,6 @@ l4_of Icmp payload =
 abbrev pub is_query : List ℕ → Bool
 is_query payload =
     octet payload 0 == 8 || octet payload 0 == 0 || octet payload 0 == 128 || octet payload 0 == 129
-
--- the octets with a number of 16 bits at a place, and all others as they were
-abbrev pub with_word : ℕ → ℕ → List ℕ → List ℕ
-with_word at n octets = take at octets ++ (in_word n ++ drop (at + 2) octets)
 
 -- The payload with other ports and another sum, and nothing else changed. A query has its identifier, the
 -- source port, in place of ports, and another ICMP message has none.

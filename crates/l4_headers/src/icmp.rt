@@ -5,6 +5,7 @@ ghost use Rattle.l4_headers.specs.Transport.{l4_of, with_l4};
 
 use crate::{L4, Ports};
 use byteorder::{BigEndian, ByteOrder};
+use octets::icmp_type::{ECHO_REPLY4, ECHO_REPLY6, ECHO_REQUEST4, ECHO_REQUEST6};
 
 const KIND: usize = 0;
 
@@ -14,8 +15,8 @@ const IDENTIFIER: usize = 4;
 /// The octets of the header.
 const HEADER: usize = 8;
 
-/// The types of queries: echo reply and request of ICMPv4, then echo request and reply of ICMPv6.
-const QUERIES: [u8; 4] = [0, 8, 128, 129];
+/// The types of queries, of both versions.
+const QUERIES: [u8; 4] = [ECHO_REPLY4, ECHO_REQUEST4, ECHO_REQUEST6, ECHO_REPLY6];
 
 /// Whether the header doesn't stand there.
 pub fn is_bad(payload: &[u8]) -> bool

@@ -8,11 +8,13 @@ ghost use Rattle.l4_headers.specs.Transport.{header_octets, IsBadTransport, l4_o
 
 mod icmp;
 mod ports;
+mod pseudo_header;
 mod tcp;
 mod udp;
 
 use octets::{Cause, Proto};
 pub use ports::{L4, Ports};
+pub use pseudo_header::{address_sum4, address_sum6, pseudo_sum4, pseudo_sum6};
 
 /// The ports, the sum and the flags at the front of a packet's transport payload. `whole` says that the
 /// packet is no fragment; without it the payload is that of a first fragment, and only the header itself

@@ -3,6 +3,7 @@ pub mod Gaps
 pub mod GroupNumbers
 pub mod Hex
 pub mod Numerals
+pub mod Parts
 pub mod OneValue
 pub mod Prefixes
 pub mod Runs6
@@ -11,4 +12,5 @@ pub mod Sizes
 pub mod Spelling4
 pub mod Spelling6
 pub mod Turns
+pub mod Words
 pub mod Written6

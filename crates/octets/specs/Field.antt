@@ -1,5 +1,5 @@
 -- Parts of a list of octets, by place from 0. Numbers of several octets have the highest octet first.
-use Rattle.std.specs.Prelude.{ℕ, List, take, drop, slice_index}
+use Rattle.std.specs.Prelude.{ℕ, ◌+◌, List, ◌++◌, take, drop, slice_index}
 use Rattle.byteorder.specs.Endian.{big_from, big_bytes}
 
 -- the octet at a place, and 0 past the end
@@ -31,3 +31,7 @@ in_quad n = big_bytes 4 n
 
 abbrev pub in_sixteen : ℕ → List ℕ
 in_sixteen n = big_bytes 16 n
+
+-- the octets with a number of 16 bits at a place, and all others as they were
+abbrev pub with_word : ℕ → ℕ → List ℕ → List ℕ
+with_word at n octets = take at octets ++ (in_word n ++ drop (at + 2) octets)

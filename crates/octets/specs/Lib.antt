@@ -5,6 +5,7 @@ pub mod Field
 pub mod Fragment
 pub mod Numeral
 pub mod PrefixText
+pub mod Protocol
 pub mod Run6
 pub mod Text4
 pub mod Text6

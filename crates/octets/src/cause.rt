@@ -1,6 +1,8 @@
 ghost use Rattle.std.specs.Prelude.{◌≡◌, Some, None};
 ghost use Rattle.octets.specs.Cause.{number_of, cause_of};
 
+use crate::NoMemory as OutOfMemory;
+
 /// Why a node dropped a packet, in the order in which causes are tested.
 #[derive(Clone, Copy, Debug, PartialEq, Eq, Hash)]
 pub enum Cause {
@@ -84,6 +86,26 @@ const CAUSES: [Cause; 23] = [
 pub enum Fault {
     Drop(Cause),
     NoMemory,
+}
+
+impl From<Cause> for Fault {
+    ghost use Rattle.octets.specs.declared.cause.Fault.TheVariants.{Drop as Dropped};
+
+    ghost from_gives = { λ cause fault. fault ≡ Dropped cause };
+
+    fn from(cause: Cause) -> Fault {
+        Fault::Drop(cause)
+    }
+}
+
+impl From<OutOfMemory> for Fault {
+    ghost use Rattle.octets.specs.declared.cause.Fault.TheVariants.{NoMemory};
+
+    ghost from_gives = { λ _ fault. fault ≡ NoMemory };
+
+    fn from(_: OutOfMemory) -> Fault {
+        Fault::NoMemory
+    }
 }
 
 impl Cause {

@@ -1,11 +1,15 @@
 //! The plain types that every layer of the domain speaks of: addresses, prefixes, octets, names,
-//! parcels, and the causes for which a packet is dropped.
+//! parcels, the causes for which a packet is dropped, numbers at their place among octets, and the numbers
+//! of protocols and of ICMP types.
 #![tactic(auto)]
 
 mod address;
 mod bytes;
 mod cause;
 mod equal;
+mod field;
+mod fragment;
+pub mod icmp_type;
 mod laws;
 mod memory;
 mod mtus;
@@ -15,6 +19,7 @@ mod parcel;
 mod prefix;
 mod prefix_text;
 mod proto;
+pub mod protocol;
 mod text4;
 mod text6;
 
@@ -22,6 +27,8 @@ pub use address::{Addr4, Addr6, bits_of};
 pub use bytes::Bytes;
 pub use cause::{Cause, Fault};
 pub use equal::{addresses_are_in_the_order_of_numbers, equal_values_are_the_same};
+pub use field::{quad_at, sixteen_at, word_at};
+pub use fragment::is_wrong_fragment;
 pub use laws::{
     a_text_spells_one_value, an_ipv4_text_is_the_written_one,
     an_ipv6_text_is_shortened_by_the_rules, written_texts_are_read,

@@ -1,5 +1,4 @@
-//! Numbers of several octets at their place.
-
+//! Numbers of several octets at their place, the highest octet first (RFC 791, appendix B).
 ghost use Rattle.std.specs.Prelude.{◌≡◌, ◌+◌, ◌≤◌, length};
 ghost use Rattle.octets.specs.Field.{word, quad, sixteen};
 
