@@ -121,22 +121,11 @@ impl Head4 {
         decided(octets)
     }
 
-    /// The packet without the octets after its total length, which belong to no packet. The octets are those
-    /// of which the header was read.
+    /// The packet without the octets after its total length, which belong to no packet. Octets that are
+    /// fewer stay as they are.
     pub fn trimmed<'a>(&self, octets: &'a [u8]) -> &'a [u8]
-        requires { self.now.total ≤ length octets.now }
         ensures { result.now ≡ trimmed4 self.now octets.now }
     {
-        &octets[..usize::from(self.total)]
-    }
-
-    /// The payload: what stands between the header and the total length. The octets are those of which the
-    /// header was read.
-    pub fn payload<'a>(&self, octets: &'a [u8]) -> &'a [u8]
-        requires lengths { self.now.head_len ≤ self.now.total }
-        requires whole { self.now.total ≤ length octets.now }
-        ensures { result.now ≡ payload_of self.now octets.now }
-    {
-        &octets[usize::from(self.head_len)..usize::from(self.total)]
+        &octets[..octets.len().min(usize::from(self.total))]
     }
 }

@@ -1,4 +1,5 @@
 pub mod Causes
 pub mod Chain
+pub mod Embedded
 pub mod Grammar
 pub mod Written

@@ -3,6 +3,7 @@
 #![tactic(auto)]
 
 mod chain;
+mod embedded;
 mod fault;
 mod head;
 mod layout;

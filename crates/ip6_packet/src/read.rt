@@ -30,7 +30,7 @@ fn agreed(octets: &[u8]) -> Option<Chain>
 }
 
 /// The fields of the headers, the chain of which leads to this.
-fn fields(octets: &[u8], chain: Chain) -> Head6
+pub fn fields(octets: &[u8], chain: Chain) -> Head6
     requires long { 40 ≤ length octets.now }
     requires version { octet octets.now 0 / 16 ≡ 6 }
     requires within { (40 ≤ chain.start) × (chain.start ≤ 40 + payload_len octets.now) }
@@ -93,21 +93,12 @@ impl Head6 {
         decided(octets)
     }
 
-    /// The packet without the octets after its payload length, which belong to no packet. The octets are
-    /// those of which the headers were read.
+    /// The packet without the octets after its payload length, which belong to no packet. Octets that are
+    /// fewer stay as they are.
     pub fn trimmed<'a>(&self, octets: &'a [u8]) -> &'a [u8]
-        requires { self.now.start + self.now.length ≤ length octets.now }
         ensures { result.now ≡ trimmed6 self.now octets.now }
     {
-        &octets[..self.start as usize + usize::from(self.length)]
-    }
-
-    /// The payload: the octets of the upper protocol. The octets are those of which the headers were read.
-    pub fn payload<'a>(&self, octets: &'a [u8]) -> &'a [u8]
-        requires { self.now.start + self.now.length ≤ length octets.now }
-        ensures { result.now ≡ payload_of self.now octets.now }
-    {
-        let start = self.start as usize;
-        &octets[start..start + usize::from(self.length)]
+        let end = self.start as usize + usize::from(self.length);
+        &octets[..octets.len().min(end)]
     }
 }
