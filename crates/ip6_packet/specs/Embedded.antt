@@ -11,6 +11,7 @@ pub record HasHeaders6 (h : Head6) (octets : List ℕ) : Type 0 where
   pub fields : HasFields6 h octets
   pub chain : chain_of octets ≡ Some (record { upper = h.upper; start = h.start; frag = h.frag; left = h.left })
   pub ends : h.start + h.length ≡ 40 + payload_len octets
+  pub fixed : 40 ≤ length octets
   pub stands : h.start ≤ length octets
 
 -- they begin with none: too few octets, another version, a chain that passes the octets or has a second

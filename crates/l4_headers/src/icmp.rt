@@ -25,17 +25,25 @@ pub fn is_bad(payload: &[u8]) -> bool
     payload.len() < HEADER
 }
 
+/// Octets 4 and 5 as both ports.
+pub fn ports(payload: &[u8]) -> Ports
+    requires { HEADER ≤ length payload.now }
+    ensures { result ≡ (l4_of Icmp payload.now).ports }
+{
+    let identifier = BigEndian::read_u16(&payload[IDENTIFIER..]);
+    Ports {
+        src: identifier,
+        dst: identifier,
+    }
+}
+
 /// The sum, and octets 4 and 5 as both ports.
 pub fn read(payload: &[u8]) -> L4
     requires { HEADER ≤ length payload.now }
     ensures { result ≡ l4_of Icmp payload.now }
 {
-    let identifier = BigEndian::read_u16(&payload[IDENTIFIER..]);
     L4 {
-        ports: Ports {
-            src: identifier,
-            dst: identifier,
-        },
+        ports: ports(payload),
         sum: BigEndian::read_u16(&payload[SUM..]),
         flags: 0,
     }

@@ -43,6 +43,19 @@ pub fn read_l4(proto: Proto, payload: &[u8], whole: bool) -> Result<L4, Cause>
     })
 }
 
+/// The ports in the first 8 octets of a transport header, which are the least that an ICMP error embeds of
+/// it (RFC 792). For ICMP both are octets 4 and 5, the identifier of a query.
+pub fn read_ports(proto: Proto, payload: &[u8]) -> Ports
+    requires { 8 ≤ length payload.now }
+    ensures { result ≡ (l4_of proto payload.now).ports }
+{
+    match proto {
+        Proto::Tcp => tcp::ports(payload),
+        Proto::Udp => udp::ports(payload),
+        Proto::Icmp => icmp::ports(payload),
+    }
+}
+
 /// Writes the ports and the sum into a payload that `read_l4` accepts of a first fragment, and so also
 /// into one that it accepts of a whole packet. An ICMP query has its identifier, `ports.src`, in place of
 /// ports. Any other ICMP message keeps all but its sum.

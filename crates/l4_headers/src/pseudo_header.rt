@@ -34,9 +34,10 @@ pub fn pseudo_sum4(src: Addr4, dst: Addr4, protocol: u8, len: u16) -> u64
 
 /// The sum of the words of an IPv6 pseudo header: the addresses, the number of the upper protocol, and the length
 /// of its header and payload in octets.
-pub fn pseudo_sum6(src: Addr6, dst: Addr6, protocol: u8, len: u16) -> u64
+pub fn pseudo_sum6(src: Addr6, dst: Addr6, protocol: u8, len: u32) -> u64
     ensures value { result ≡ words (pseudo_header6 src dst protocol len) }
     ensures bounded { result ≤ 2 ^ 22 }
 {
-    address_sum6(src) + address_sum6(dst) + u64::from(protocol) + u64::from(len)
+    let len_words = u64::from(len >> 16) + u64::from(len % (1 << 16));
+    address_sum6(src) + address_sum6(dst) + u64::from(protocol) + len_words
 }

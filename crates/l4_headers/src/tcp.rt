@@ -29,16 +29,24 @@ pub fn is_bad(payload: &[u8], whole: bool) -> bool
     whole && (header < HEADER || payload.len() < header)
 }
 
+/// The ports, which stand in the first 8 octets.
+pub fn ports(payload: &[u8]) -> Ports
+    requires { 8 ≤ length payload.now }
+    ensures { result ≡ (l4_of Tcp payload.now).ports }
+{
+    Ports {
+        src: BigEndian::read_u16(&payload[SRC..]),
+        dst: BigEndian::read_u16(&payload[DST..]),
+    }
+}
+
 /// The header's ports, sum and flags.
 pub fn read(payload: &[u8]) -> L4
     requires { HEADER ≤ length payload.now }
     ensures { result ≡ l4_of Tcp payload.now }
 {
     L4 {
-        ports: Ports {
-            src: BigEndian::read_u16(&payload[SRC..]),
-            dst: BigEndian::read_u16(&payload[DST..]),
-        },
+        ports: ports(payload),
         sum: BigEndian::read_u16(&payload[SUM..]),
         flags: payload[FLAGS],
     }
