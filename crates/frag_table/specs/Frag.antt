@@ -33,9 +33,13 @@ pub record FragStep : Type 0 where
 abbrev pub is_live : ℕ → Note → Bool
 is_live clock note = nat_lt clock note.deadline
 
--- each step begins so: the clock never goes back, and the notes whose deadline has come go, with what they hold
+-- the notes whose deadline hasn't come at a clock; the others go, with what they hold
+abbrev pub live_at : ℕ → List Note → FragState
+live_at clock notes = record { clock = clock; notes = filter (is_live clock) notes }
+
+-- each step begins so: the clock never goes back
 abbrev pub aged : FragState → ℕ → FragState
-aged s now = let clock = max s.clock now in record { clock = clock; notes = filter (is_live clock) s.notes }
+aged s now = live_at (max s.clock now) s.notes
 
 -- two keys are the same, in each of their parts
 abbrev pub same_key : FragKey → FragKey → Bool
@@ -55,22 +59,26 @@ with_note note (n ∷ notes) = if same_key n.key note.key then note ∷ notes el
 abbrev pub answered : FragState → FragAnswer → FragStep
 answered s answer = record { after = s; answer = answer }
 
--- a note is added, whose deadline never moves
-abbrev pub noting : FragState → FragKey → Option Ports → List Parcel → FragAnswer → FragStep
-noting s key ports held answer = record { after = record s { notes = s.notes ++ record { key = key; deadline = s.clock + note_time; ports = ports; held = held } ∷ [] }; answer = answer }
+-- the note that is made of a key, whose deadline never moves
+abbrev pub new_note : ℕ → FragKey → Option Ports → List Parcel → Note
+new_note clock key ports held = record { key = key; deadline = clock + note_time; ports = ports; held = held }
 
 -- a note is changed
 abbrev pub changing : FragState → Note → FragAnswer → FragStep
 changing s note answer = record { after = record s { notes = with_note note s.notes }; answer = answer }
 
--- a new key: Full where there are 256 notes, and else a note is added
-abbrev pub new_key : FragState → FragKey → Option Ports → List Parcel → FragAnswer → FragStep
-new_key s key ports held answer = if nat_lt (length s.notes) most_notes then noting s key ports held answer else answered s Full
+-- the note of a new key is added where there are fewer than 256
+abbrev pub new_key : FragState → Note → FragAnswer → FragStep
+new_key s note answer = if nat_lt (length s.notes) most_notes then record { after = record s { notes = s.notes ++ note ∷ [] }; answer = answer } else answered s Full
 
--- a first fragment whose key has a note: its ports are set anew, and what is held is released in the order of arrival
-abbrev pub first_again : FragState → Note → Ports → List Parcel → FragStep
-first_again s note ports [] = changing s (record note { ports = Some ports }) Noted
-first_again s note ports (parcel ∷ held) = changing s (record note { ports = Some ports; held = [] }) (Released (parcel ∷ held))
+-- what a first fragment is told, by what waits for it: that is released in the order of arrival
+abbrev pub released : List Parcel → FragAnswer
+released [] = Noted
+released (parcel ∷ held) = Released (parcel ∷ held)
+
+-- a first fragment whose key has a note: its ports are set anew, and nothing is held any more
+abbrev pub first_again : FragState → Note → Ports → FragStep
+first_again s note ports = changing s (record note { ports = Some ports; held = [] }) (released note.held)
 
 -- a later fragment whose key has a note: its ports are known, or it is held where fewer than 16 are
 abbrev pub later_again : FragState → Note → Parcel → Option Ports → FragStep
@@ -79,13 +87,13 @@ later_again s note parcel None = if nat_lt (length note.held) most_held then cha
 
 -- a first fragment
 abbrev pub first_step : FragState → FragKey → Ports → Option Note → FragStep
-first_step s key ports None = new_key s key (Some ports) [] Noted
-first_step s key ports (Some note) = first_again s note ports note.held
+first_step s key ports None = new_key s (new_note s.clock key (Some ports) []) Noted
+first_step s key ports (Some note) = first_again s note ports
 
 -- a later fragment, which is held under the place of the step
 abbrev pub later_step : FragState → FragKey → Parcel → Option Note → FragStep
 later_step s key parcel (Some note) = later_again s note parcel note.ports
-later_step s key parcel None = new_key s key None (parcel ∷ []) Held
+later_step s key parcel None = new_key s (new_note s.clock key None (parcel ∷ [])) Held
 
 -- a step of the machine on the state with its notes of the past gone
 abbrev pub frag_now : FragState → ℕ → FragAsk → FragStep

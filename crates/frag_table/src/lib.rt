@@ -5,9 +5,14 @@
 mod answer;
 mod ask;
 mod key;
+mod live;
 mod note;
+mod notes;
+mod rows;
+mod table;
 
 pub use answer::FragAnswer;
 pub use ask::FragAsk;
 pub use key::FragKey;
 pub use note::Note;
+pub use table::FragTable;

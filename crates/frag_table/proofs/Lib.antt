@@ -1,0 +1,3 @@
+pub mod Keys
+pub mod LiveNotes
+pub mod EachRow
