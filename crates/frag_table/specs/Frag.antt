@@ -103,3 +103,11 @@ frag_now s place (Later key octets) = later_step s key (record { place = place; 
 -- a step of the machine, at a time in microseconds: what it leaves, and what it answers
 unfoldable pub frag : FragState → ℕ → ℕ → FragAsk → FragStep
 frag s now place ask = frag_now (aged s now) place ask
+
+-- the parcels that an answer frees
+abbrev pub freed_by : FragAnswer → List Parcel
+freed_by Noted = []
+freed_by (Known ports) = []
+freed_by Held = []
+freed_by (Released parcels) = parcels
+freed_by Full = []

@@ -1,5 +1,6 @@
-ghost use Rattle.std.specs.Prelude.{◌≡◌, ◌<◌, ◌^◌, IfOk, OnErr};
-ghost use Rattle.frag_table.specs.Frag.{live_at, frag_now};
+ghost use Rattle.std.specs.Prelude.{◌≡◌, ℕ, ◌<◌, ◌^◌, IfOk, OnErr};
+ghost use Rattle.frag_table.specs.Frag.{live_at, frag_now, freed_by};
+ghost use Rattle.l4_headers.specs.declared.ports.Ports.{Ports as PortsType};
 ghost use Rattle.frag_table.specs.Place.{IsPlace};
 ghost use Rattle.frag_table.specs.declared.ask.FragAsk.TheVariants.{First, Later};
 
@@ -152,4 +153,20 @@ fn parcel(alloc: Global, step: u64, octets: &Bytes) -> Result<Parcel, NoMemory>
         place: step,
         bytes: octets.copy(alloc)?,
     })
+}
+
+/// A copy of the parcels that wait for a first fragment of this key.
+pub(crate) fn waiting(
+    alloc: Global,
+    notes: &Notes,
+    clock: u64,
+    key: &FragKey,
+) -> Result<Parcels, NoMemory>
+    ensures { IfOk result (λ parcels. (step : ℕ) (ports : PortsType) →
+        parcels ≡ freed_by (frag_now (live_at clock notes.now) step (First key.now ports)).answer) }
+{
+    match place(notes, clock, key) {
+        Some(at) => notes.get(at).held.copy(alloc),
+        None => Ok(Parcels::new(alloc)),
+    }
 }

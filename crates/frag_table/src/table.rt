@@ -1,11 +1,11 @@
-ghost use Rattle.std.specs.Prelude.{◌≡◌, ◌<◌, ◌^◌, [], IfOk, OnOk, OnErr};
-ghost use Rattle.frag_table.specs.Frag.{frag};
+ghost use Rattle.std.specs.Prelude.{◌≡◌, ℕ, ◌<◌, ◌^◌, [], IfOk, OnOk, OnErr};
+ghost use Rattle.frag_table.specs.Frag.{frag, freed_by};
 
 use crate::live::expire;
 use crate::notes::Notes;
-use crate::rows::take;
+use crate::rows::{take, waiting};
 use crate::{FragAnswer, FragAsk};
-use octets::NoMemory;
+use octets::{NoMemory, Parcels};
 use std::alloc::Global;
 use std::marker::Model;
 
@@ -57,5 +57,16 @@ impl FragTable {
         self.clock = clock;
         expire(&mut self.notes, clock);
         Ok(answer)
+    }
+
+    /// A copy of the parcels that a step would free, and none where it would answer anything but `Released`. Nothing
+    /// changes.
+    pub fn waiting(&self, now: u64, ask: &FragAsk) -> Result<Parcels, NoMemory>
+        ensures { IfOk result (λ parcels. (step : ℕ) → parcels ≡ freed_by (frag self.now now step ask.now).answer) }
+    {
+        match ask {
+            FragAsk::First(key, _) => waiting(self.alloc, &self.notes, self.clock.max(now), key),
+            FragAsk::Later(_, _) => Ok(Parcels::new(self.alloc)),
+        }
     }
 }
