@@ -1,19 +1,11 @@
 -- An embedded packet that is read isn't refused.
-use Rattle.std.proofs.Common.{◌≡◌, ℕ, ◌≤◌, List, length, inl, inr, arith}
-use Rattle.std.proofs.lemmas.Grind.{common_steps}
+use Rattle.std.proofs.Common.{ℕ, ◌≤◌, List, length, inl, inr, arith}
 use Rattle.octets.specs.declared.proto.Proto.{Proto}
 use Rattle.ip6_packet.specs.declared.head.Head6.{Head6}
 use Rattle.ip6_packet.specs.Grammar.{payload_of as payload_of6}
-use Rattle.ip6_packet.specs.Embedded.{HasHeaders6, LacksHeaders6}
+use Rattle.ip6_packet.proofs.EmbeddedLemmas.{same_headers6, lacks_none6}
+use Rattle.ip6_packet.specs.Embedded.{HasHeaders6}
 use Rattle.icmp_messages.specs.Inner.{IsCarried6, IsFirst6, IsBadBehind6, IsBadInner6}
-
-same_headers6 : (h g : Head6) (octets : List ℕ) → HasHeaders6 h octets → HasHeaders6 g octets → h ≡ g
-same_headers6 h g octets is other = grind (arith, common_steps)
-
-lacks_none6 : (h : Head6) (octets : List ℕ) → HasHeaders6 h octets → LacksHeaders6 octets → ⊥
-lacks_none6 h octets is (inl short) = omega (arith, is.fixed)
-lacks_none6 h octets is (inr (inl other)) = other is.fields.version
-lacks_none6 h octets is (inr (inr none)) = let e = is.chain in cc
 
 fine6 : (h : Head6) (proto : Proto) (payload : List ℕ) → 8 ≤ length payload → IsFirst6 h.frag → IsCarried6 proto h.upper payload → IsBadBehind6 h payload → ⊥
 fine6 h proto payload stands first carried (inl short) = omega arith

@@ -9,6 +9,7 @@ mod layout;
 mod options;
 mod read;
 
+pub use fault::is_no_destination;
 pub use head::Head4;
 
 #[cfg(test)]

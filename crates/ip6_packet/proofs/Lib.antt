@@ -1,3 +1,4 @@
 pub mod CauseLemmas
 pub mod ChainLemmas
+pub mod EmbeddedLemmas
 pub mod WrittenLemmas

@@ -6,7 +6,7 @@ use Rattle.octets.specs.Field.{in_sixteen}
 use Rattle.ip6_packet.specs.declared.head.Head6.{Head6}
 use Rattle.ip6_packet.specs.declared.head.Frag6.{Frag6}
 use Rattle.octets.specs.Bits.{bit_of}
-use Rattle.ip6_packet.specs.Written.{fragment_header, fragment_part, next_header, fixed_header, written6, IsUpper, IsPlaced, IsInRange, FitsFrag}
+use Rattle.ip6_packet.specs.Written.{fragment_header, fragment_part, next_header, fixed_header, written6, IsUpper, IsPlaced, IsInRange, FitsFrag, IsWritten6}
 use Rattle.ip6_packet.specs.Chain.{is_sized, frag_of, chain_in}
 use Rattle.ip6_packet.specs.Grammar.{payload_len, HasFields6, Is6}
 use Rattle.ip6_packet.specs.Causes.{IsNotIp6, IsTruncated6, IsBadHeader6, IsWrongFrag6, IsNoDestination6, HasNoCause6, IsSound6}
@@ -85,32 +85,36 @@ room : (upper start len : ℕ) (frag : Option Frag6) → IsPlaced start len frag
 room upper start len None placed fits = record { start_is = sym placed; fits = omega arith }
 room upper start len (Some frag) placed fits = record { start_is = sym placed.0; fits = omega (arith, placed.1) }
 
--- the written packet holds these fields and this payload, without a cause
-pub written_again : (h : Head6) (payload : List ℕ) → IsInRange h → FitsFrag h.frag → h.left ≡ None → IsUpper h.upper → IsPlaced h.start h.length h.frag
-    → IsSound6 h payload → Is6 h payload (written6 h payload) × HasNoCause6 (written6 h payload)
-written_again h payload fits frag_fits unrouted is_upper placed is_sound =
-    (is, sound h payload (written6 h payload) is (omega arith) (rw is_sound.0 is_sound.1) is_sound.2)
+-- the written packet holds these fields and this payload
+pub written_is6 : (h : Head6) (payload octets : List ℕ) → IsWritten6 h payload octets → Is6 h payload octets
+written_is6 h payload octets form = rw form.written is
   where
     behind : List ℕ
     behind = fragment_part h.upper h.frag ++ payload
 
     the_room : Room h.upper h.start h.length h.frag
-    the_room = room h.upper h.start h.length h.frag placed fits.length_fits
+    the_room = room h.upper h.start h.length h.frag form.placed form.in_range.length_fits
 
     len_is : payload_len (fixed_header h ++ behind) ≡ h.length + length (fragment_part h.upper h.frag)
     len_is = number_back 2 (h.length + length (fragment_part h.upper h.frag)) (next_header h.upper h.frag ∷ h.hop ∷ in_sixteen h.src.0 ++ (in_sixteen h.dst.0 ++ behind)) (omega (arith, the_room.fits))
 
     behind_is : length behind ≡ h.length + length (fragment_part h.upper h.frag)
-    behind_is = omega (arith, is_sound.0, length-append (fragment_part h.upper h.frag) payload)
+    behind_is = omega (arith, form.exact, length-append (fragment_part h.upper h.frag) payload)
 
     head_is : length (fixed_header h ++ fragment_part h.upper h.frag) ≡ h.start
     head_is = omega (arith, the_room.start_is)
 
     is : Is6 h payload (written6 h payload)
     is = record {
-      fields = written_fields h behind fits;
-      chain = rw (len_is, take_all (h.length + length (fragment_part h.upper h.frag)) behind (omega (arith, behind_is)), unrouted) (chain_back h.upper h.start h.length h.frag payload is_upper placed frag_fits);
+      fields = written_fields h behind form.in_range;
+      chain = rw (len_is, take_all (h.length + length (fragment_part h.upper h.frag)) behind (omega (arith, behind_is)), form.unrouted) (chain_back h.upper h.start h.length h.frag payload form.upper form.placed form.frag_in_range);
       ends = rw len_is (omega (arith, the_room.start_is));
       whole = rw len_is (omega (arith, behind_is));
-      payload_is = sym (ap (take h.length) (drop_at (fixed_header h ++ fragment_part h.upper h.frag) payload h.start head_is) ∙ take_all h.length payload (omega (arith, is_sound.0)));
+      payload_is = sym (ap (take h.length) (drop_at (fixed_header h ++ fragment_part h.upper h.frag) payload h.start head_is) ∙ take_all h.length payload (omega (arith, form.exact)));
     }
+
+-- and has no cause
+pub written_again : (h : Head6) (payload octets : List ℕ) → IsWritten6 h payload octets → IsSound6 h payload → Is6 h payload octets × HasNoCause6 octets
+written_again h payload octets form is_sound =
+    let is = written_is6 h payload octets form in
+    (is, sound h payload octets is (omega (arith, is.whole)) (rw is_sound.0 is_sound.1) is_sound.2)

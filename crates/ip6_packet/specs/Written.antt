@@ -55,3 +55,13 @@ pub record IsInRange (h : Head6) : Type 0 where
   pub length_fits : h.length < 65536
   pub src : h.src.0 < 2 ^ 128
   pub dst : h.dst.0 < 2 ^ 128
+
+-- the octets are the packet with these headers and this payload as it is written
+pub record IsWritten6 (h : Head6) (payload octets : List ℕ) : Type 0 where
+  pub exact : h.length ≡ length payload
+  pub unrouted : h.left ≡ None
+  pub upper : IsUpper h.upper
+  pub placed : IsPlaced h.start h.length h.frag
+  pub in_range : IsInRange h
+  pub frag_in_range : FitsFrag h.frag
+  pub written : octets ≡ written6 h payload

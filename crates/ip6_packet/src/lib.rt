@@ -9,6 +9,7 @@ mod head;
 mod layout;
 mod read;
 
+pub use fault::is_no_destination;
 pub use head::{Frag6, Head6};
 
 #[cfg(test)]

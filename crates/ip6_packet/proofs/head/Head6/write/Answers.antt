@@ -1,5 +1,5 @@
 use Rattle.std.proofs.Common.{◌≡◌, rules}
-use Rattle.ip6_packet.specs.Written.{written6}
+use Rattle.ip6_packet.specs.Written.{written6, IsWritten6}
 use Rattle.ip6_packet.proofs.WrittenLemmas.{written_again}
 use Rattle.ip6_packet.proofs.head.Head6.write.Goals as goal
 
@@ -8,4 +8,13 @@ returns-clause-again c = λ is_sound.
     let h = c.args.self.now in
     let payload = c.args.payload.now in
     let e : c.extend-2.new.self ≡ written6 h payload = search rules in
-    rw e (written_again h payload c.header.ensures.in_range c.in_ok-put_fragment.ensures.in_range c.requires.unrouted c.requires.upper c.requires.placed is_sound)
+    let form : IsWritten6 h payload c.extend-2.new.self = record {
+      exact = is_sound.0;
+      unrouted = c.requires.unrouted;
+      upper = c.requires.upper;
+      placed = c.requires.placed;
+      in_range = c.header.ensures.in_range;
+      frag_in_range = c.in_ok-put_fragment.ensures.in_range;
+      written = e;
+    } in
+    written_again h payload c.extend-2.new.self form is_sound
