@@ -1,3 +1,4 @@
 pub mod CauseLemmas
+pub mod OptionGrammar
 pub mod OptionLemmas
 pub mod WrittenLemmas

@@ -5,25 +5,25 @@ use Rattle.std.proofs.lemmas.List.{length-take-le, get_or-take, take_rest}
 use Rattle.ip4_packet.specs.Options.{is_source_route, least_length, is_unspent, beside, routed_in, IsFirstOption}
 
 -- an option that began goes on for as long as it says
-skipped : (n : ℕ) (octets : List ℕ) → n ≤ length octets → routed_in n octets ≡ routed_in 0 (drop n octets)
+pub skipped : (n : ℕ) (octets : List ℕ) → n ≤ length octets → routed_in n octets ≡ routed_in 0 (drop n octets)
 unfolding routed_in
 skipped zero octets h = refl
 skipped (suc n) [] h = absurd (omega arith)
 skipped (suc n) (octet ∷ rest) h = skipped n rest (omega arith)
 
 -- an option may not pass the end
-passes : (n : ℕ) (octets : List ℕ) → length octets < n → routed_in n octets ≡ None
+pub passes : (n : ℕ) (octets : List ℕ) → length octets < n → routed_in n octets ≡ None
 unfolding routed_in
 passes zero octets h = absurd (omega arith)
 passes (suc n) [] h = refl
 passes (suc n) (octet ∷ rest) h = passes n rest (omega arith)
 
 -- every option with a length octet has at least two octets
-two_or_more : (kind : ℕ) → 2 ≤ least_length kind
+pub two_or_more : (kind : ℕ) → 2 ≤ least_length kind
 two_or_more kind = elim (is_source_route kind) as (λ b. 2 ≤ cond b 3 2) [ true ↦ omega arith | false ↦ omega arith ]
 
 -- a pointer counts in a source route alone
-unspent_alike : (kind len p q : ℕ) → (3 ≤ least_length kind → p ≡ q) → is_unspent kind len p ≡ is_unspent kind len q
+pub unspent_alike : (kind len p q : ℕ) → (3 ≤ least_length kind → p ≡ q) → is_unspent kind len p ≡ is_unspent kind len q
 unspent_alike kind len p q =
     elim (is_source_route kind) as (λ b. (3 ≤ cond b 3 2 → p ≡ q) → (b && leb p len) ≡ (b && leb q len)) [
       | true ↦ (λ (same : 3 ≤ 3 → p ≡ q). ap (λ (x : ℕ). leb x len) (same (omega arith)))
@@ -63,7 +63,7 @@ too_short (kind ∷ len ∷ rest) many large short =
     rw (ne_eqb kind 0 (omega arith), ne_eqb kind 1 (omega arith), lt-ltb len (least_length kind) short) refl
 
 -- an option of its own length
-opens : (kind len : ℕ) (rest : List ℕ) → 2 ≤ kind → least_length kind ≤ len
+pub opens : (kind len : ℕ) (rest : List ℕ) → 2 ≤ kind → least_length kind ≤ len
     → routed_in 0 (kind ∷ len ∷ rest) ≡ beside (is_unspent kind len (get_or rest 0 0)) (routed_in (len - 2) rest)
 unfolding routed_in
 opens kind len rest large fits =

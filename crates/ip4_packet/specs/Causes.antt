@@ -2,7 +2,7 @@
 use Rattle.std.specs.Prelude.{◌≡◌, ◌≢◌, ℕ, ◌+◌, ◌-◌, ◌/◌, ◌^◌, ◌<◌, ◌⊎◌, List, length, take, None, Result, Ok, Err}
 use Rattle.octets.specs.declared.cause.Cause.{Cause}
 use Rattle.octets.specs.declared.cause.Cause.TheVariants.{NotIp, Truncated, BadHeader, BadHeaderSum, BadDestination}
-use Rattle.octets.specs.Cause.{number_of}
+use Rattle.octets.specs.Cause.{HoldsNone, IsLeast}
 use Rattle.octets.specs.Bits.{bit_of}
 use Rattle.octets.specs.Fragment.{IsWrongFragment}
 use Rattle.octets.specs.Field.{octet, quad}
@@ -50,12 +50,11 @@ HasCause4 _ octets = ⊥
 
 -- they have none
 abbrev pub HasNoCause4 : List ℕ → Type 0
-HasNoCause4 octets = (c : Cause) → HasCause4 c octets → ⊥
+HasNoCause4 octets = HoldsNone (λ cause. HasCause4 cause octets)
 
 -- the least cause that they have
 abbrev pub IsCause4 : Cause → List ℕ → Type 0
-IsCause4 cause octets =
-    HasCause4 cause octets × ((lesser : Cause) → number_of lesser < number_of cause → HasCause4 lesser octets → ⊥)
+IsCause4 cause octets = IsLeast (λ cause. HasCause4 cause octets) cause
 
 -- What was read of the octets holds of a longer list of octets too. Only octets that were too few, or
 -- none, may be judged otherwise.

@@ -5,12 +5,14 @@
 mod embedded;
 mod fault;
 mod head;
+mod laws;
 mod layout;
 mod options;
 mod read;
 
 pub use fault::is_no_destination;
 pub use head::Head4;
+pub use laws::{equal_headers_are_the_same, options_are_read_by_their_grammar};
 
 #[cfg(test)]
 mod tests;

@@ -2,7 +2,7 @@
 use Rattle.std.specs.Prelude.{◌≡◌, ◌≢◌, ℕ, ◌+◌, ◌-◌, ◌/◌, ◌^◌, ◌<◌, ◌⊎◌, List, length, Option, None, Some, Result, Ok, Err}
 use Rattle.octets.specs.declared.cause.Cause.{Cause}
 use Rattle.octets.specs.declared.cause.Cause.TheVariants.{NotIp, Truncated, BadHeader, BadDestination}
-use Rattle.octets.specs.Cause.{number_of}
+use Rattle.octets.specs.Cause.{HoldsNone, IsLeast}
 use Rattle.octets.specs.Bits.{bit_of}
 use Rattle.octets.specs.Fragment.{IsWrongFragment}
 use Rattle.octets.specs.Field.{octet, sixteen}
@@ -49,12 +49,11 @@ HasCause6 _ octets = ⊥
 
 -- they have none
 abbrev pub HasNoCause6 : List ℕ → Type 0
-HasNoCause6 octets = (c : Cause) → HasCause6 c octets → ⊥
+HasNoCause6 octets = HoldsNone (λ cause. HasCause6 cause octets)
 
 -- the least cause that they have
 abbrev pub IsCause6 : Cause → List ℕ → Type 0
-IsCause6 cause octets =
-    HasCause6 cause octets × ((lesser : Cause) → number_of lesser < number_of cause → HasCause6 lesser octets → ⊥)
+IsCause6 cause octets = IsLeast (λ cause. HasCause6 cause octets) cause
 
 -- What was read of the octets holds of a longer list of octets too. Only octets that were too few, or
 -- none, may be judged otherwise.
