@@ -1,4 +1,5 @@
 pub mod CauseLemmas
+pub mod ChainGrammar
 pub mod ChainLemmas
 pub mod EmbeddedLemmas
 pub mod WrittenLemmas

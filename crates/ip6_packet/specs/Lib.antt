@@ -2,4 +2,5 @@ pub mod Causes
 pub mod Chain
 pub mod Embedded
 pub mod Grammar
+pub mod Headers
 pub mod Written
