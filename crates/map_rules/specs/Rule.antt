@@ -1,8 +1,8 @@
 -- The addresses, ports and edges of one mapping rule (RFC 7597, sections 5 and 6).
-use Rattle.std.specs.Prelude.{◌≡◌, ℕ, ◌+◌, ◌-◌, ◌/◌, ◌%◌, ◌^◌, ◌<◌, ◌==◌, ◌&&◌, if◌then◌else◌, Option, Some, None}
-use Rattle.octets.specs.Bits.{bits_at, SameFirst}
+use Rattle.std.specs.Prelude.{◌≡◌, ℕ, ◌+◌, ◌-◌, ◌/◌, ◌%◌, ◌^◌, ◌<◌, ◌==◌, ◌&&◌, nat_lt, Bool, if◌then◌else◌, Option, Some, None}
+use Rattle.octets.specs.Bits.{bits_at, SameFirst, same_first}
 use Rattle.port_set.specs.PortSet.{in_set}
-use Rattle.map_rules.specs.Address.{map_address, psid_of}
+use Rattle.map_rules.specs.Address.{map_address, psid_of, carried_addr, carried_psid}
 use Rattle.map_rules.specs.declared.rule.Rule.{Rule}
 
 -- the length of the PSIDs: what the EA bits have beside the suffix of the IPv4 address
@@ -17,6 +17,10 @@ suffix_of rule addr = addr % 2 ^ (32 - rule.prefix4.len)
 abbrev pub HasAddress : Rule → ℕ → Type 0
 HasAddress rule addr = SameFirst 32 rule.prefix4.len rule.prefix4.bits addr
 
+-- the same as a test
+abbrev pub has_address : Rule → ℕ → Bool
+has_address rule addr = same_first 32 rule.prefix4.len rule.prefix4.bits addr
+
 -- the MAP address of an IPv4 address of the rule and a PSID
 unfoldable pub rule_address : Rule → ℕ → ℕ → ℕ
 rule_address rule addr v = map_address rule.prefix6.bits rule.prefix6.len rule.ea (psid_len rule) (suffix_of rule addr) addr v
@@ -26,7 +30,7 @@ rule_address rule addr v = map_address rule.prefix6.bits rule.prefix6.len rule.e
 unfoldable pub ce6_of : Rule → ℕ → ℕ → Option ℕ
 ce6_of rule addr x =
     let v = psid_of rule.offset (psid_len rule) x in
-    if ((rule.prefix4.bits / 2 ^ (32 - rule.prefix4.len)) == (addr / 2 ^ (32 - rule.prefix4.len))) && in_set rule.offset (psid_len rule) v x then Some (rule_address rule addr v) else None
+    if has_address rule addr && in_set rule.offset (psid_len rule) v x then Some (rule_address rule addr v) else None
 
 -- the IPv6 address is, as a whole, the MAP address of this IPv4 address and PSID under the rule
 pub record IsSource (rule : Rule) (s addr v : ℕ) : Type 0 where
@@ -34,6 +38,14 @@ pub record IsSource (rule : Rule) (s addr v : ℕ) : Type 0 where
   pub has : HasAddress rule addr
   pub psid : v < 2 ^ psid_len rule
   pub whole : rule_address rule addr v ≡ s
+
+-- the IPv4 address and PSID of which that is true: what the MAP address carries, where its other bits are
+-- those of the rule's MAP address for it
+unfoldable pub source_of : Rule → ℕ → Option (ℕ × ℕ)
+source_of rule s =
+    let addr = carried_addr s in
+    let v = carried_psid s in
+    if has_address rule addr && (nat_lt v (2 ^ psid_len rule) && (rule_address rule addr v == s)) then Some (addr, v) else None
 
 -- an edge of the rule has this IPv6 prefix: the rule's begins it, and it ends with the EA bits
 abbrev pub HasEdge : Rule → ℕ → ℕ → Type 0

@@ -1,5 +1,5 @@
-ghost use Rattle.std.specs.Prelude.{◌≡◌, ◌≢◌, ℕ, ◌^◌, ◌<◌, ◌↔◌, IsTrue, IsSome, IfSome, IfNone};
-ghost use Rattle.map_rules.specs.Embedding.{embedded, is_embedding_prefix};
+ghost use Rattle.std.specs.Prelude.{◌≡◌, ◌≢◌, ℕ, ◌^◌, ◌<◌, ◌↔◌, IsTrue, IsSome, IfSome, IfNone, option_map};
+ghost use Rattle.map_rules.specs.Embedding.{embedded, extract_of, is_embedding_prefix};
 
 use crate::place::place;
 use octets::{Addr4, Addr6, Prefix6, bits_of};
@@ -54,6 +54,7 @@ impl Dmr {
     pub fn extract(&self, addr: Addr6) -> Option<Addr4>
         ensures found { IfSome result (λ a. embedded self.now.prefix.bits self.now.prefix.len a.0 ≡ addr.0) }
         ensures none { IfNone result ((a : ℕ) → a < 2 ^ 32 → embedded self.now.prefix.bits self.now.prefix.len a ≢ addr.0) }
+        ensures value { option_map (λ a. a.0) result ≡ extract_of self.now.prefix.bits self.now.prefix.len addr.0 }
     {
         let cut = self.cut(addr);
         if self.embed(cut) == addr {

@@ -1,9 +1,9 @@
-ghost use Rattle.std.specs.Prelude.{◌≡◌, ℕ, ◌^◌, ◌<◌, IsTrue, Some};
+ghost use Rattle.std.specs.Prelude.{◌≡◌, ℕ, ◌^◌, ◌<◌, ◌↔◌, IsTrue, Some};
 ghost use Rattle.octets.specs.Bits.{IsClearFrom, SameFirst};
 ghost use Rattle.port_set.specs.PortSet.{in_set};
-ghost use Rattle.map_rules.specs.Embedding.{embedded, is_embedding_prefix};
+ghost use Rattle.map_rules.specs.Embedding.{embedded, extract_of, is_embedding_prefix};
 ghost use Rattle.map_rules.specs.Address.{psid_of};
-ghost use Rattle.map_rules.specs.Rule.{psid_len, ce6_of, IsSource, HasEdge, edge_address, edge_psid};
+ghost use Rattle.map_rules.specs.Rule.{psid_len, ce6_of, IsSource, source_of, HasEdge, edge_address, edge_psid};
 ghost use Rattle.map_rules.specs.declared.rule.Rule.{Rule as RuleType};
 
 /// Law: the source of a MAP address has it, with each port of the source's set.
@@ -69,4 +69,14 @@ pub fn embedded_addresses_are_inside_the_prefix()
         → IsClearFrom 128 bits len
         → a < 2 ^ 32
         → SameFirst 128 len bits (embedded bits len a) }
+{}
+
+/// Law: what stands behind an IPv6 address under a rule is its source, where it has one, and under the
+/// default mapping rule the address that is embedded in it.
+pub fn sources_are_told()
+    ensures rule { (rule : RuleType) (s addr v : ℕ) → (source_of rule s ≡ Some (addr, v)) ↔ IsSource rule s addr v }
+    ensures embedded { (bits len s a : ℕ)
+        → IsTrue (is_embedding_prefix bits len)
+        → IsClearFrom 128 bits len
+        → (extract_of bits len s ≡ Some a) ↔ ((a < 2 ^ 32) × (embedded bits len a ≡ s)) }
 {}

@@ -1,4 +1,4 @@
-ghost use Rattle.std.specs.Prelude.{◌≡◌, ℕ, ◌+◌, ◌-◌, ◌/◌, ◌%◌, ◌^◌, ◌<◌, ◌≤◌, ◌↔◌, IsSome, IfSome, IfNone, IfOk, MatchOption, Some, None};
+ghost use Rattle.std.specs.Prelude.{◌≡◌, ℕ, ◌+◌, ◌-◌, ◌/◌, ◌%◌, ◌^◌, ◌<◌, ◌≤◌, ◌↔◌, IsSome, IfSome, IfNone, IfOk, MatchOption, Some, None, option_map};
 ghost use Rattle.std.specs.Result.{result_err};
 ghost use Rattle.octets.specs.Bits.{bits_at, SameFirst};
 ghost use Rattle.map_rules.specs.Shape.{first_broken};
@@ -46,7 +46,7 @@ const ADDR_AT: u8 = 80;
 const PSID_AT: u8 = 112;
 
 impl Rule {
-    ghost use Rattle.map_rules.specs.Rule.{psid_len, suffix_of, HasAddress, rule_address, ce6_of, IsSource, HasEdge, ea_bits, edge_address, edge_psid};
+    ghost use Rattle.map_rules.specs.Rule.{psid_len, suffix_of, HasAddress, rule_address, ce6_of, IsSource, source_of, HasEdge, ea_bits, edge_address, edge_psid};
 
     /// The rule of these parts. It has five shape rules, and is refused with the number of the first that
     /// is broken: 1, at most 32 EA bits; 2, these and the IPv4 prefix at least 32 bits; 3, the IPv6 prefix
@@ -130,6 +130,7 @@ impl Rule {
         ensures found { IfSome result (λ r. IsSource self.now s.0 r.0.0 r.1.psid) }
         ensures shape { IfSome result (λ r. (r.1.a ≡ self.now.offset) × (r.1.k ≡ psid_len self.now)) }
         ensures none { IfNone result ((addr v : ℕ) → ¬ IsSource self.now s.0 addr v) }
+        ensures value { option_map (λ r. (r.0.0, r.1.psid)) result ≡ source_of self.now s.0 }
     {
         let addr = Addr4(bits_of(s, ADDR_AT, 32) as u32);
         let psid = bits_of(s, PSID_AT, 16) as u16;

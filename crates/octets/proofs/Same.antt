@@ -48,7 +48,7 @@ both_true false q e = cc
 pub passes_same : {A : Type 0} (eq : A → A → Bool) → ((x : A) → eq x x ≡ true) → (x y : A) → x ≡ y → eq x y ≡ true
 passes_same {A} eq reflexive x y same = let P : A → Type 0 = λ z. eq x z ≡ true in subst P same (reflexive x)
 
-two_same : (a b : ℕ) → (nat_eq a a && nat_eq b b) ≡ true
+pub two_same : (a b : ℕ) → (nat_eq a a && nat_eq b b) ≡ true
 two_same a b = search (rules, tests)
 
 two_told : (a b c d : ℕ) → (nat_eq a b && nat_eq c d) ≡ true → (a ≡ b) × (c ≡ d)
@@ -56,13 +56,13 @@ two_told a b c d e =
     let t = both_true (nat_eq a b) (nat_eq c d) e in
     (eqb-true a b t.0, eqb-true c d t.1)
 
-abbrev eq_prefix4 : Prefix4 → Prefix4 → Bool
+abbrev pub eq_prefix4 : Prefix4 → Prefix4 → Bool
 eq_prefix4 p q = nat_eq p.bits q.bits && nat_eq p.len q.len
 
-abbrev eq_prefix6 : Prefix6 → Prefix6 → Bool
+abbrev pub eq_prefix6 : Prefix6 → Prefix6 → Bool
 eq_prefix6 p q = nat_eq p.bits q.bits && nat_eq p.len q.len
 
-abbrev eq_mtus : Mtus → Mtus → Bool
+abbrev pub eq_mtus : Mtus → Mtus → Bool
 eq_mtus m n = nat_eq m.mtu4 n.mtu4 && nat_eq m.mtu6 n.mtu6
 
 pub prefix4_told : (p q : Prefix4) → (eq_prefix4 p q ≡ true → p ≡ q) × (p ≡ q → eq_prefix4 p q ≡ true)

@@ -16,13 +16,13 @@ same_set s t a k psid = λ i. record {
   fits = is_prop→PathP (λ j. psid j < 2 ^ k j) (λ j. le_prop) s.fits t.fits i;
 }
 
-abbrev eq_set : PortSet → PortSet → Bool
+abbrev pub eq_set : PortSet → PortSet → Bool
 eq_set s t = nat_eq s.a t.a && (nat_eq s.k t.k && nat_eq s.psid t.psid)
 
 three_told : (a b c d e f : ℕ) → (nat_eq a b && (nat_eq c d && nat_eq e f)) ≡ true → (a ≡ b) × (c ≡ d) × (e ≡ f)
 three_told a b c d e f t = (grind (arith, nat_tests), grind (arith, nat_tests), grind (arith, nat_tests))
 
-three_same : (a b c : ℕ) → (nat_eq a a && (nat_eq b b && nat_eq c c)) ≡ true
+pub three_same : (a b c : ℕ) → (nat_eq a a && (nat_eq b b && nat_eq c c)) ≡ true
 three_same a b c = search (rules, tests)
 
 pub set_told : (s t : PortSet) → (eq_set s t ≡ true → s ≡ t) × (s ≡ t → eq_set s t ≡ true)

@@ -5,7 +5,7 @@ ghost use Rattle.port_set.specs.Layout.{HasLayout};
 use crate::layout::Layout;
 
 /// The offset is over 15, the PSID length is over 16 less the offset, or the PSID doesn't fit its length.
-#[derive(Clone, Copy, Debug, PartialEq, Eq, Hash)]
+#[derive(Debug, Clone, Copy, PartialEq, Eq, Hash)]
 pub struct BadPorts;
 
 /// The ports of one customer edge (RFC 7597, section 5.1). Two are equal exactly where offset, PSID

@@ -1,10 +1,11 @@
-use Rattle.std.proofs.Common.{◌≡◌, ℕ, ◌*◌, ◌%◌, ◌^◌, ◌∙◌, sym, arith}
+use Rattle.std.proofs.Common.{◌≡◌, ℕ, ◌*◌, ◌%◌, ◌^◌, ◌∙◌, sym, arith, rules}
 use Rattle.std.specs.Prelude.{◌==◌, not, true}
 use Rattle.std.proofs.lemmas.Bool.{both_ways}
 use Rattle.std.proofs.lemmas.Bool.Decides.{nat_tests}
 use Rattle.std.proofs.lemmas.Nat.{one_shl}
-use Rattle.map_rules.specs.Rule.{psid_len}
+use Rattle.map_rules.specs.Rule.{psid_len, IsSource}
 use Rattle.map_rules.proofs.Rules.{source-addr, source-psid, psid-short}
+use Rattle.map_rules.proofs.Sources.{source_of-found, source_of-none}
 use Rattle.map_rules.proofs.rule.Rule.source.Goals as goal
 use Rattle.map_rules.proofs.rule.Rule.source.Goals.{then-not-has-via-then-not-has, then-not-has-via-else-not-has+then-from-psid_len}
 
@@ -31,3 +32,14 @@ returns-then-ne-clause-none c addr v e =
     let is_psid = c.bits_of-psid.ensures ∙ source-psid rule c.args.s.0 addr v e in
     let same : c.address.result.0 ≡ c.args.s.0 = c.address.ensures ∙ rw (is_addr, is_psid) e.whole in
     not-other c.address.result.0 c.args.s.0 same (sym c.ne.ensures ∙ c.if-ne.true)
+
+pub returns-then-not-has-clause-value : goal.returns-then-not-has-clause-value
+returns-then-not-has-clause-value c = sym (source_of-none c.args.self.now c.args.s.0 (returns-then-not-has-clause-none c))
+
+pub returns-then-ne-clause-value : goal.returns-then-ne-clause-value
+returns-then-ne-clause-value c = sym (source_of-none c.args.self.now c.args.s.0 (returns-then-ne-clause-none c))
+
+pub returns-clause-value : goal.returns-clause-value
+returns-clause-value c =
+    let is : IsSource c.args.self.now c.args.s.0 c.bits_of.result c.ports.result.psid = search rules in
+    sym (source_of-found c.args.self.now c.args.s.0 c.bits_of.result c.ports.result.psid is)
