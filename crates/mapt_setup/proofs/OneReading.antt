@@ -1,7 +1,5 @@
 -- What a configuration says is read in one way.
-use Rattle.std.proofs.Common.{◌≡◌, ◌≤◌, ◌+◌, ◌-◌, ℕ, List, codes, true, false, Option, Some, None, Err, refl, sym, subst, ◌∙◌}
-use Rattle.std.proofs.Math.Bool.{Bool-set}
-use native.Mathlib.Bridge.{le_prop}
+use Rattle.std.proofs.Common.{◌≡◌, ◌+◌, ◌-◌, ℕ, List, codes, false, Option, Some, None, Err, refl, sym, subst, ◌∙◌}
 use mathlib.Core.HLevel.{is_prop→PathP}
 use Rattle.std.proofs.lemmas.Bool.{false≢true, le-leb}
 use Rattle.std.proofs.lemmas.Option.{same_Some}
@@ -12,7 +10,7 @@ use Rattle.octets.specs.declared.prefix.Prefix4.{Prefix4}
 use Rattle.octets.specs.declared.prefix.Prefix6.{Prefix6}
 use Rattle.octets.proofs.OneValue.{one_addr4, one_prefix4, one_prefix6}
 use Rattle.octets.proofs.Same.{same_prefix4, same_prefix6, same_mtus}
-use Rattle.map_rules.specs.Embedding.{is_embedding_prefix}
+use Rattle.map_rules.proofs.Same.{same_rule, same_dmr}
 use Rattle.map_rules.specs.Shape.{first_broken}
 use Rattle.map_rules.specs.declared.dmr.Dmr.{Dmr}
 use Rattle.map_rules.specs.declared.rule.Rule.{Rule}
@@ -61,12 +59,6 @@ one_prefix key ms p q h g =
     let text = once (text_at key ms) h.text g.text h.there g.there in
     let same = one_prefix6 g.text p.bits p.len q.bits q.len (subst (λ t. IsPrefixText6 t p.bits p.len) text h.spelled) g.spelled in
     same_prefix6 p q same.0 same.1
-
-same_dmr : (d e : Dmr) → d.prefix ≡ e.prefix → d ≡ e
-same_dmr d e prefix = λ i. record {
-  prefix = prefix i;
-  valid = is_prop→PathP (λ j. is_embedding_prefix (prefix j).bits (prefix j).len ≡ true) (λ j. Bool-set _ _) d.valid e.valid i;
-}
 
 one_required : (ms : Members) (x y : Required) → HasRequired ms x → HasRequired ms y → x ≡ y
 one_required ms x y h g =
@@ -119,20 +111,6 @@ pub one_edge : AreOne IsEdge (HasNone IsEdge)
 one_edge = record { one = of_one_table IsEdgeTable one_edge_table; none = λ d x is no. no x is }
 
 -- ---- the rules' shapes and their book
-
-same_rule : (r s : Rule) → r.prefix6 ≡ s.prefix6 → r.prefix4 ≡ s.prefix4 → r.ea ≡ s.ea → r.offset ≡ s.offset → r.forward ≡ s.forward → r ≡ s
-same_rule r s prefix6 prefix4 ea offset forward = λ i. record {
-  prefix6 = prefix6 i;
-  prefix4 = prefix4 i;
-  ea = ea i;
-  offset = offset i;
-  forward = forward i;
-  ea_most = is_prop→PathP (λ j. ea j ≤ 32) (λ j. le_prop) r.ea_most s.ea_most i;
-  ea_least = is_prop→PathP (λ j. 32 ≤ ea j + (prefix4 j).len) (λ j. le_prop) r.ea_least s.ea_least i;
-  edge_length = is_prop→PathP (λ j. (prefix6 j).len + ea j ≤ 64) (λ j. le_prop) r.edge_length s.edge_length i;
-  offset_most = is_prop→PathP (λ j. offset j ≤ 15) (λ j. le_prop) r.offset_most s.offset_most i;
-  psid_most = is_prop→PathP (λ j. ea j + (prefix4 j).len - 32 ≤ 16 - offset j) (λ j. le_prop) r.psid_most s.psid_most i;
-}
 
 one_shape : (line : RuleLine) (r s : Rule) → HasParts line r → HasParts line s → r ≡ s
 one_shape line r s h g = same_rule r s (h.prefix6 ∙ sym g.prefix6) (h.prefix4 ∙ sym g.prefix4) (h.ea ∙ sym g.ea) (h.offset ∙ sym g.offset) (h.forward ∙ sym g.forward)

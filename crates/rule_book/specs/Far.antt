@@ -1,52 +1,34 @@
 -- Which IPv4 address stands behind an IPv6 source address and a port (RFC 7597, section 8.1; RFC 7599,
--- section 9).
-use Rattle.std.specs.Prelude.{ℕ, ◌+◌, ◌-◌, ◌*◌, ◌/◌, ◌^◌, ◌==◌, ◌&&◌, nat_lt, Bool, if◌then◌else◌, List, [], ◌∷◌, Option, Some, None}
+-- sections 8.2 and 8.3).
+use Rattle.std.specs.Prelude.{ℕ, Bool, if◌then◌else◌, List, [], ◌∷◌}
 use Rattle.std.specs.Option.{option_map_or}
-use Rattle.octets.specs.Bits.{bits_at}
+use Rattle.octets.specs.Bits.{same_first}
 use Rattle.octets.specs.declared.prefix.Prefix6.{Prefix6}
 use Rattle.port_set.specs.PortSet.{in_set}
 use Rattle.map_rules.specs.declared.rule.Rule.{Rule}
 use Rattle.map_rules.specs.declared.dmr.Dmr.{Dmr}
-use Rattle.map_rules.specs.Embedding.{embedded}
-use Rattle.map_rules.specs.Rule.{psid_len, rule_address}
+use Rattle.map_rules.specs.Embedding.{extract_of}
+use Rattle.map_rules.specs.Rule.{psid_len, source_of}
 use Rattle.rule_book.specs.declared.view.FarOf.{FarOf}
 use Rattle.rule_book.specs.declared.view.FarOf.TheVariants.{Addr, Spoofed, NotDefault}
-use Rattle.rule_book.specs.Owner.{has_addr4}
 
 -- the IPv6 address is inside the prefix
 abbrev pub has_addr6 : Prefix6 → ℕ → Bool
-has_addr6 prefix s = (prefix.bits / 2 ^ (128 - prefix.len)) == (s / 2 ^ (128 - prefix.len))
+has_addr6 prefix s = same_first 128 prefix.len prefix.bits s
 
--- the bits at which an address stands that is embedded under a prefix of this length (RFC 6052, section
--- 2.2): they follow the prefix and skip bits 64 to 71, or they are the last 32
-abbrev pub embedded_bits : ℕ → ℕ → ℕ
-embedded_bits len s = if len == 96 then bits_at 128 s 96 32 else bits_at 128 s len (64 - len) * 2 ^ (len - 32) + bits_at 128 s 72 (len - 32)
+-- a source's IPv4 address, where the port is in the port set of its PSID
+abbrev pub far_with : Rule → ℕ → ℕ × ℕ → FarOf
+far_with rule port source = if in_set rule.offset (psid_len rule) source.1 port then Addr (record { 0 = source.0 }) else Spoofed
 
--- the address that is embedded so under the default mapping rule
-abbrev pub extract_of : Dmr → ℕ → Option ℕ
-extract_of dmr s = let a = embedded_bits dmr.prefix.len s in if embedded dmr.prefix.bits dmr.prefix.len a == s then Some a else None
-
--- the IPv4 address and the PSID that a MAP address carries in its last 48 bits
-abbrev pub carried_addr : ℕ → ℕ
-carried_addr s = bits_at 128 s 80 32
-
-abbrev pub carried_psid : ℕ → ℕ
-carried_psid s = bits_at 128 s 112 16
-
--- the IPv6 address is, as a whole, the rule's MAP address for what it carries
-abbrev pub is_source : Rule → ℕ → Bool
-is_source rule s = has_addr4 (carried_addr s) rule && (nat_lt (carried_psid s) (2 ^ psid_len rule) && (rule_address rule (carried_addr s) (carried_psid s) == s))
-
--- the source under one rule: what it carries, where it is the rule's MAP address and the port is in its
--- port set
+-- under one rule: that of the source whose MAP address it is
 abbrev pub far_under : Rule → ℕ → ℕ → FarOf
-far_under rule s port = if is_source rule s && in_set rule.offset (psid_len rule) (carried_psid s) port then Addr (record { 0 = carried_addr s }) else Spoofed
+far_under rule s port = option_map_or (far_with rule port) (source_of rule s) Spoofed
 
--- the source inside the default mapping rule: the address that is embedded in it
+-- inside the default mapping rule: the address that is embedded in it
 abbrev pub far_embedded : Dmr → ℕ → FarOf
-far_embedded dmr s = option_map_or (λ a. Addr (record { 0 = a })) (extract_of dmr s) NotDefault
+far_embedded dmr s = option_map_or (λ a. Addr (record { 0 = a })) (extract_of dmr.prefix.bits dmr.prefix.len s) NotDefault
 
--- the source under the rule whose IPv6 prefix has the address, and no address where none has
+-- under the first rule whose IPv6 prefix has the address, and none where no rule's has
 abbrev pub far_by_rule : List Rule → ℕ → ℕ → FarOf
 far_by_rule [] s port = NotDefault
 far_by_rule (r ∷ rules) s port = if has_addr6 r.prefix6 s then far_under r s port else far_by_rule rules s port

@@ -1,5 +1,6 @@
 -- What an edge holds by its IPv6 prefix (RFC 7597, section 5.2).
-use Rattle.std.specs.Prelude.{◌≡◌, ℕ, ◌+◌, ◌-◌, ◌/◌, ◌^◌, ◌==◌, ◌&&◌, Bool, IsTrue, if◌then◌else◌, List, [], ◌∷◌, Option, Some, None, IsSomeAnd}
+use Rattle.std.specs.Prelude.{◌≡◌, ℕ, ◌+◌, ◌==◌, ◌&&◌, Bool, IsTrue, if◌then◌else◌, List, [], ◌∷◌, Option, Some, None, IsSomeAnd}
+use Rattle.octets.specs.Bits.{same_first}
 use Rattle.octets.specs.declared.prefix.Prefix6.{Prefix6}
 use Rattle.port_set.specs.PortSet.{in_set}
 use Rattle.map_rules.specs.declared.rule.Rule.{Rule}
@@ -20,7 +21,7 @@ holder_in e = record { addr = e.addr.0; offset = e.ports.a; psid_length = e.port
 
 -- the rule's IPv6 prefix begins the edge's, which ends with the EA bits
 abbrev pub has_edge : Prefix6 → Rule → Bool
-has_edge prefix rule = (prefix.len == rule.prefix6.len + rule.ea) && (rule.prefix6.bits / 2 ^ (128 - rule.prefix6.len) == prefix.bits / 2 ^ (128 - rule.prefix6.len))
+has_edge prefix rule = (prefix.len == rule.prefix6.len + rule.ea) && same_first 128 rule.prefix6.len rule.prefix6.bits prefix.bits
 
 -- what the edge's EA bits give under the rule
 abbrev pub holder_under : Rule → Prefix6 → Holder

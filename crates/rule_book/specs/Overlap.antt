@@ -1,11 +1,12 @@
 -- Prefixes that have addresses in common: one of the two begins the other.
-use Rattle.std.specs.Prelude.{◌-◌, ◌/◌, ◌^◌, ◌==◌, ◌&&◌, ◌||◌, nat_le, Bool, IsTrue}
+use Rattle.std.specs.Prelude.{◌&&◌, ◌||◌, nat_le, Bool, IsTrue}
+use Rattle.octets.specs.Bits.{same_first}
 use Rattle.octets.specs.declared.prefix.Prefix4.{Prefix4}
 use Rattle.octets.specs.declared.prefix.Prefix6.{Prefix6}
 
 -- the second IPv4 prefix is at least as long and has the first one's bits
 abbrev pub begins4 : Prefix4 → Prefix4 → Bool
-begins4 a b = nat_le a.len b.len && (a.bits / 2 ^ (32 - a.len) == b.bits / 2 ^ (32 - a.len))
+begins4 a b = nat_le a.len b.len && same_first 32 a.len a.bits b.bits
 
 -- two IPv4 prefixes have an address in common
 abbrev pub overlaps4 : Prefix4 → Prefix4 → Bool
@@ -16,7 +17,7 @@ Overlaps4 a b = IsTrue (overlaps4 a b)
 
 -- the second IPv6 prefix is at least as long and has the first one's bits
 abbrev pub begins6 : Prefix6 → Prefix6 → Bool
-begins6 a b = nat_le a.len b.len && (a.bits / 2 ^ (128 - a.len) == b.bits / 2 ^ (128 - a.len))
+begins6 a b = nat_le a.len b.len && same_first 128 a.len a.bits b.bits
 
 -- two IPv6 prefixes have an address in common
 abbrev pub overlaps6 : Prefix6 → Prefix6 → Bool

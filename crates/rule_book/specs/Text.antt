@@ -8,9 +8,9 @@ use Rattle.octets.specs.Text6.{text6}
 use Rattle.octets.specs.PrefixText.{prefix_text4, prefix_text6}
 use Rattle.map_rules.specs.declared.rule.Rule.{Rule}
 use Rattle.map_rules.specs.declared.dmr.Dmr.{Dmr}
+use Rattle.map_rules.specs.Address.{carried_psid}
 use Rattle.rule_book.specs.declared.lines.RuleParts.{RuleParts}
 use Rattle.rule_book.specs.Owner.{owner_of}
-use Rattle.rule_book.specs.Far.{carried_psid}
 use Rattle.rule_book.specs.Holder.{holder_of}
 
 -- the end of a line
