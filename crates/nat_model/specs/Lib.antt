@@ -7,3 +7,4 @@ pub mod Fragment
 pub mod Remote
 pub mod Machine
 pub mod Sound
+pub mod Stripe

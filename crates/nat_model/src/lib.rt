@@ -7,9 +7,11 @@ mod ask;
 mod binding;
 mod bindings;
 mod entry;
+mod stripe;
 
 pub use answer::Answer;
 pub use ask::{Ask, End4, Far, Part};
 pub use binding::Binding;
 pub use bindings::Bindings;
 pub use entry::{Entry, Mark, Who};
+pub use stripe::StripeEntry;
