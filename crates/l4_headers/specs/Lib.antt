@@ -1,2 +1,3 @@
 pub mod PseudoHeader
+pub mod Readdressed
 pub mod Transport

@@ -9,12 +9,14 @@ ghost use Rattle.l4_headers.specs.Transport.{header_octets, IsBadTransport, l4_o
 mod icmp;
 mod ports;
 mod pseudo_header;
+mod readdress;
 mod tcp;
 mod udp;
 
 use octets::{Cause, Proto};
 pub use ports::{L4, Ports};
 pub use pseudo_header::{address_sum4, address_sum6, pseudo_sum4, pseudo_sum6};
+pub use readdress::{computed_udp_sum, followed_by, readdressed_sum};
 
 /// The ports, the sum and the flags at the front of a packet's transport payload. `whole` says that the
 /// packet is no fragment; without it the payload is that of a first fragment, and only the header itself
@@ -54,6 +56,18 @@ pub fn read_ports(proto: Proto, payload: &[u8]) -> Ports
         Proto::Udp => udp::ports(payload),
         Proto::Icmp => icmp::ports(payload),
     }
+}
+
+/// The ports, the sum and the flags at the front of a payload that `read_l4` accepts.
+pub fn accepted_l4(proto: Proto, payload: &[u8], whole: bool) -> L4
+    requires { IsBadTransport proto payload.now whole → ⊥ }
+    ensures value { result ≡ l4_of proto payload.now }
+    ensures stands { header_octets proto ≤ length payload.now }
+{
+    let Ok(l4) = read_l4(proto, payload, whole) else {
+        unreachable!();
+    };
+    l4
 }
 
 /// Writes the ports and the sum into a payload that `read_l4` accepts of a first fragment, and so also

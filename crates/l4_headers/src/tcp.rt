@@ -14,7 +14,8 @@ const DATA_OFFSET: usize = 12;
 
 const FLAGS: usize = 13;
 
-const SUM: usize = 16;
+/// Where the sum stands.
+pub const SUM: usize = 16;
 /// The octets of a header without options.
 const HEADER: usize = 20;
 

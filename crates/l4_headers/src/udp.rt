@@ -12,7 +12,8 @@ const DST: usize = 2;
 
 const LENGTH: usize = 4;
 
-const SUM: usize = 6;
+/// Where the sum stands.
+pub const SUM: usize = 6;
 /// The octets of the header.
 const HEADER: usize = 8;
 
