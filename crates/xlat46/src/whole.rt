@@ -32,7 +32,7 @@ fn sum46(head: &Head4, proto: Proto, payload: &[u8], src: Addr6, dst: Addr6, por
 {
     let l4 = accepted_l4(proto, payload, !head.mf);
     if lacks_sum(proto, is_fragment(head), l4.sum) {
-        let pseudo = pseudo_sum6(src, dst, UDP, payload.len() as u16);
+        let pseudo = pseudo_sum6(src, dst, UDP, payload.len() as u32);
         return computed_udp_sum(pseudo, payload, ports);
     }
     let before = address_sum4(head.src) + address_sum4(head.dst);
