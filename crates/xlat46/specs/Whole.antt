@@ -1,6 +1,6 @@
 -- A TCP or UDP packet of IPv4 translated to IPv6 as a whole: its header by the table of headers, its ports
 -- replaced, its sum changed with them (RFC 7915, sections 4.1 and 4.5).
-use Rattle.std.specs.Prelude.{◌≡◌, ◌≢◌, ℕ, ◌+◌, ◌↔◌, Bool, false, not, IsTrue, ◌&&◌, ◌==◌, if◌then◌else◌, List, length, Option, None, Some, IsSome}
+use Rattle.std.specs.Prelude.{◌≡◌, ◌≢◌, ℕ, ◌+◌, ◌≤◌, ◌↔◌, Bool, false, not, IsTrue, ◌&&◌, ◌==◌, if◌then◌else◌, List, length, Option, None, Some, IsSome}
 use Rattle.octets.specs.Field.{word, in_quad, in_sixteen}
 use Rattle.octets.specs.Protocol.{proto4}
 use Rattle.octets.specs.declared.address.Addr6.{Addr6}
@@ -74,3 +74,11 @@ packet46 p src dst ports = written6 (translated p.head src dst) (payload46 p src
 -- ports are given exactly to a packet that has some: to all but a later fragment
 abbrev pub HasPorts : Head4 → Option Ports → Type 0
 HasPorts head ports = IsSome ports ↔ (head.offset ≡ 0)
+
+-- what is translated: a packet with none of those causes and a TTL of at least 2, with ports unless it is a later
+-- fragment
+pub record IsAccepted46 (octets : List ℕ) (ports : Option Ports) : Type 0 where
+  pub parts : Parts4
+  pub sound : HasNoCause46 parts octets
+  pub alive : 2 ≤ parts.head.ttl
+  pub with_ports : HasPorts parts.head ports

@@ -1,7 +1,7 @@
 ghost use Rattle.std.specs.Prelude.{◌≡◌, ◌≢◌, ◌+◌, ◌<◌, ◌≤◌, not, IfOk, length};
 ghost use Rattle.octets.specs.declared.proto.Proto.TheVariants.{Icmp};
 ghost use Rattle.l4_headers.specs.Transport.{IsBadTransport, l4_of};
-ghost use Rattle.xlat46.specs.Whole.{Parts4, IsCarried4, HasNoCause46, addresses_before, addresses_after, lacks_sum, sum46, packet46, HasPorts};
+ghost use Rattle.xlat46.specs.Whole.{Parts4, IsCarried4, HasNoCause46, addresses_before, addresses_after, lacks_sum, sum46, packet46, HasPorts, IsAccepted46};
 
 use crate::head::{head46, is_fragment};
 use ip4_packet::Head4;
@@ -76,6 +76,9 @@ pub fn packet46(
 /// sections 4.1 and 4.5). Options and what stands after the total length are dropped, a Fragment Header stands
 /// exactly for a fragment, and a later fragment keeps its payload. The sum of a whole UDP packet that has none is
 /// computed; any other changes by the words that changed, so that a wrong one stays wrong.
+///
+/// The packet has none of the causes for which it is dropped, a TTL of at least 2, and `ports` unless it is a later
+/// fragment.
 pub fn whole46(
     alloc: Global,
     packet: &[u8],
@@ -83,9 +86,7 @@ pub fn whole46(
     dst: Addr6,
     ports: Option<Ports>,
 ) -> Result<Bytes, NoMemory>
-    // the packet has none of the causes for which it is dropped, a TTL of at least 2, and ports unless it is a
-    // later fragment
-    requires accepted { (p : Parts4) × HasNoCause46 p packet.now × (2 ≤ p.head.ttl) × HasPorts p.head ports }
+    requires { IsAccepted46 packet.now ports }
     ensures { (p : Parts4) → HasNoCause46 p packet.now → IfOk result (λ octets. octets ≡ packet46 p src dst ports) }
 {
     let Ok(head) = Head4::read(packet) else {

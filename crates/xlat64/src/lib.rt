@@ -1,0 +1,8 @@
+//! Headers and whole packets translated from IPv6 to IPv4 (RFC 7915, section 5).
+#![tactic(auto)]
+
+mod head;
+mod whole;
+
+pub use head::head64;
+pub use whole::{packet64, whole64};
