@@ -1,13 +1,23 @@
-use Rattle.std.proofs.Common.{◌≡◌, rules}
+use Rattle.std.proofs.Common.{◌≡◌, length, rules}
 use Rattle.ip6_packet.specs.Written.{written6, IsWritten6}
 use Rattle.ip6_packet.proofs.WrittenLemmas.{written_again}
 use Rattle.ip6_packet.proofs.head.Head6.write.Goals as goal
+
+pub returns-clause-form : goal.returns-clause-form
+returns-clause-form c = λ exact. record {
+  exact = exact;
+  unrouted = c.requires.unrouted;
+  upper = c.requires.upper;
+  placed = c.requires.placed;
+  in_range = c.header.ensures.in_range;
+  frag_in_range = c.in_ok-put_fragment.ensures.in_range;
+  written = search rules;
+}
 
 pub returns-clause-again : goal.returns-clause-again
 returns-clause-again c = λ is_sound.
     let h = c.args.self.now in
     let payload = c.args.payload.now in
-    let e : c.extend-2.new.self ≡ written6 h payload = search rules in
     let form : IsWritten6 h payload c.extend-2.new.self = record {
       exact = is_sound.0;
       unrouted = c.requires.unrouted;
@@ -15,6 +25,6 @@ returns-clause-again c = λ is_sound.
       placed = c.requires.placed;
       in_range = c.header.ensures.in_range;
       frag_in_range = c.in_ok-put_fragment.ensures.in_range;
-      written = e;
+      written = search rules;
     } in
     written_again h payload c.extend-2.new.self form is_sound
