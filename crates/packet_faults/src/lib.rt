@@ -11,3 +11,6 @@ pub use cut::cut6;
 pub use error4::fault4;
 pub use error6::fault6;
 pub use hop::{Causes, Hop, Out, Outs};
+
+#[cfg(test)]
+mod tests;
