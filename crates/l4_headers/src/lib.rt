@@ -6,6 +6,7 @@ ghost use Rattle.std.specs.Prelude.{◌≡◌, ◌≤◌, ◌↔◌, IsErr, IfEr
 ghost use Rattle.octets.specs.declared.cause.Cause.TheVariants.{BadTransport};
 ghost use Rattle.l4_headers.specs.Transport.{header_octets, IsBadTransport, l4_of, with_l4};
 
+mod equal;
 mod icmp;
 mod ports;
 mod pseudo_header;
@@ -13,6 +14,7 @@ mod readdress;
 mod tcp;
 mod udp;
 
+pub use equal::equal_values_are_the_same;
 use octets::{Cause, Proto};
 pub use ports::{L4, Ports};
 pub use pseudo_header::{address_sum4, address_sum6, pseudo_sum4, pseudo_sum6};

@@ -38,20 +38,20 @@ same_edge e f addr ports own = λ i. record { addr = record { 0 = addr i }; port
 
 -- ---- what `==` of their parts tells
 
-same_flag : (b d : Bool) → beq b d ≡ true → b ≡ d
+pub same_flag : (b d : Bool) → beq b d ≡ true → b ≡ d
 same_flag true true e = refl
 same_flag true false e = cc
 same_flag false true e = cc
 same_flag false false e = refl
 
-flag_same : (b : Bool) → beq b b ≡ true
+pub flag_same : (b : Bool) → beq b b ≡ true
 flag_same true = refl
 flag_same false = refl
 
-both_pass : (p q : Bool) → p ≡ true → q ≡ true → (p && q) ≡ true
+pub both_pass : (p q : Bool) → p ≡ true → q ≡ true → (p && q) ≡ true
 both_pass p q is also = rw (is, also) refl
 
-abbrev eq_rule : Rule → Rule → Bool
+abbrev pub eq_rule : Rule → Rule → Bool
 eq_rule r s = eq_prefix6 r.prefix6 s.prefix6 && (eq_prefix4 r.prefix4 s.prefix4 && (nat_eq r.ea s.ea && (nat_eq r.offset s.offset && beq r.forward s.forward)))
 
 abbrev eq_dmr : Dmr → Dmr → Bool
@@ -60,7 +60,7 @@ eq_dmr d e = eq_prefix6 d.prefix e.prefix
 abbrev eq_edge : EdgeId → EdgeId → Bool
 eq_edge e f = nat_eq e.addr.0 f.addr.0 && (eq_set e.ports f.ports && nat_eq e.own6.0 f.own6.0)
 
-number_same : (n : ℕ) → nat_eq n n ≡ true
+pub number_same : (n : ℕ) → nat_eq n n ≡ true
 number_same n = search (rules, tests)
 
 rule_same : (r : Rule) → eq_rule r r ≡ true

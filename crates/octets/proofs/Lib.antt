@@ -5,6 +5,7 @@ pub mod Hex
 pub mod Numerals
 pub mod Parts
 pub mod OneValue
+pub mod Places
 pub mod Prefixes
 pub mod Runs6
 pub mod Same

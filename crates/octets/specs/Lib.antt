@@ -4,6 +4,7 @@ pub mod Count
 pub mod Field
 pub mod Fragment
 pub mod Numeral
+pub mod Place
 pub mod PrefixText
 pub mod Protocol
 pub mod Run6

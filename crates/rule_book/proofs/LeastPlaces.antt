@@ -14,19 +14,20 @@ use Rattle.rule_book.specs.declared.fault.BookFault.{BookFault}
 use Rattle.rule_book.specs.declared.fault.BookFault.TheVariants.{TooManyRules, Overlap4, Overlap6, OverlapDmr}
 use Rattle.rule_book.specs.Valid.{IsValid, clash4, clash6, clash_dmr}
 use Rattle.rule_book.specs.Refusal.{pair_after, first_pair, too_many, overlap_of, refusal_of}
-use Rattle.rule_book.specs.Least.{IsLeastPair, IsFirstInDmr}
-use Rattle.rule_book.proofs.Places.{position-None}
+use Rattle.octets.specs.Place.{IsFirstPlace}
+use Rattle.octets.proofs.Places.{position-exactly, position-none}
+use Rattle.rule_book.specs.Least.{IsLeastPair}
 use Rattle.rule_book.proofs.Sound.{map-None, valid-unless_refused}
 
 -- which of two choices was taken
-some-same : {X : Type 0} (x y : X) → Some x ≡ Some y → x ≡ y
+pub some-same : {X : Type 0} (x y : X) → Some x ≡ Some y → x ≡ y
 some-same x y e = cc
 
-or-Some : {X : Type 0} (a b : Option X) (x : X) → option_or a b ≡ Some x → (a ≡ Some x) ⊎ ((a ≡ None) × (b ≡ Some x))
+pub or-Some : {X : Type 0} (a b : Option X) (x : X) → option_or a b ≡ Some x → (a ≡ Some x) ⊎ ((a ≡ None) × (b ≡ Some x))
 or-Some None b x e = inr (refl, e)
 or-Some (Some y) b x e = inl e
 
-map-Some : {X Y : Type 0} (f : X → Y) (a : Option X) (y : Y) → option_map f a ≡ Some y → (x : X) × (a ≡ Some x) × (f x ≡ y)
+pub map-Some : {X Y : Type 0} (f : X → Y) (a : Option X) (y : Y) → option_map f a ≡ Some y → (x : X) × (a ≡ Some x) × (f x ≡ y)
 map-Some f None y e = absurd (none-some y e)
 map-Some f (Some x) y e = (x, refl, some-same (f x) y e)
 
@@ -64,7 +65,7 @@ least-step clash before r rules i j apart found later =
           subst Second (ap (λ p. p.1) pair.2) (subst First (ap (λ p. p.0) pair.2) least)
       | inr past ↦
           let alone : position (λ s. clash s r) before ≡ None = map-None (λ i. (i, length before)) (position (λ s. clash s r) before) past.0 in
-          let joined : Apart clash (before ++ r ∷ []) = all_pairs_push (λ r s. ¬ IsTrue (clash r s)) before r apart (λ k d within same. absurd (false≢true (sym (position-None (λ s. clash s r) before alone k d within) ∙ same))) in
+          let joined : Apart clash (before ++ r ∷ []) = all_pairs_push (λ r s. ¬ IsTrue (clash r s)) before r apart (λ k d within same. absurd (false≢true (sym (position-none (λ s. clash s r) before alone k d within) ∙ same))) in
           let P : List Rule → Type 0 = λ xs. IsLeastPair clash xs i j in
           subst P (append_assoc before (r ∷ []) rules) (later joined past.1)
     ]
@@ -89,26 +90,15 @@ no_pair clash rules (Some p) is apart =
     let r : Rule = rule-at rules p.1 least.within in
     absurd (apart p.0 p.1 r least.ordered least.within (least.clashes r))
 
--- the first rule that overlaps the default mapping rule
-pub first_in-dmr : (dmr : Dmr) (rules : List Rule) (i : ℕ) → position (clash_dmr dmr) rules ≡ Some i → IsFirstInDmr dmr rules i
-first_in-dmr dmr [] i found = absurd (none-some i found)
-first_in-dmr dmr (r ∷ rules) i found =
-    let place : (d : Rule) → (i < length (r ∷ rules)) × (clash_dmr dmr (get_or (r ∷ rules) i d) ≡ true) × ((k : ℕ) → k < i → clash_dmr dmr (get_or (r ∷ rules) k d) ≡ false) = λ d. position-Some (clash_dmr dmr) (r ∷ rules) i d found in
-    record {
-      within = (place r).0;
-      clashes = λ d. (place d).1;
-      earlier = λ k d less same. absurd (false≢true (sym ((place d).2 k less) ∙ same));
-    }
-
 none_in-dmr : (dmr : Dmr) (rules : List Rule) (o : Option ℕ) → position (clash_dmr dmr) rules ≡ o → ((k : ℕ) (d : Rule) → k < length rules → ¬ IsTrue (clash_dmr dmr (get_or rules k d))) → o ≡ None
 none_in-dmr dmr rules None is apart = refl
 none_in-dmr dmr rules (Some i) is apart =
-    let first : IsFirstInDmr dmr rules i = first_in-dmr dmr rules i is in
+    let first : IsFirstPlace (clash_dmr dmr) rules i = (position-exactly (clash_dmr dmr) rules i).0 is in
     let r : Rule = rule-at rules i first.within in
-    absurd (apart i r first.within (first.clashes r))
+    absurd (apart i r first.within (first.passes r))
 
 -- too many rules are refused for this alone
-many-fault : (b : Bool) (fault : BookFault) → (if b then Some TooManyRules else None) ≡ Some fault → TooManyRules ≡ fault
+pub many-fault : (b : Bool) (fault : BookFault) → (if b then Some TooManyRules else None) ≡ Some fault → TooManyRules ≡ fault
 many-fault true fault e = some-same TooManyRules fault e
 many-fault false fault e = absurd (none-some fault e)
 
@@ -120,13 +110,13 @@ overlap-fault rules dmr fault other refused =
     ]
 
 -- what was tested in turn
-abbrev four : List Rule → Option BookFault
+abbrev pub four : List Rule → Option BookFault
 four rules = option_map (λ p. Overlap4 p.0 p.1) (first_pair clash4 rules)
 
-abbrev six : List Rule → Option BookFault
+abbrev pub six : List Rule → Option BookFault
 six rules = option_map (λ p. Overlap6 p.0 p.1) (first_pair clash6 rules)
 
-abbrev dmr_at : List Rule → Dmr → Option BookFault
+abbrev pub dmr_at : List Rule → Dmr → Option BookFault
 dmr_at rules dmr = option_map OverlapDmr (position (clash_dmr dmr) rules)
 
 from_four : (rules : List Rule) (i j : ℕ) → four rules ≡ Some (Overlap4 i j) → IsLeastPair clash4 rules i j
@@ -147,25 +137,25 @@ from_six rules i j found =
     let Second : ℕ → Type 0 = λ n. IsLeastPair clash6 rules i n in
     subst Second second (subst First first (first_pair-least clash6 rules pair.0.0 pair.0.1 pair.1))
 
-from_dmr : (rules : List Rule) (dmr : Dmr) (i : ℕ) → dmr_at rules dmr ≡ Some (OverlapDmr i) → IsFirstInDmr dmr rules i
+from_dmr : (rules : List Rule) (dmr : Dmr) (i : ℕ) → dmr_at rules dmr ≡ Some (OverlapDmr i) → IsFirstPlace (clash_dmr dmr) rules i
 from_dmr rules dmr i found =
     let place : (k : ℕ) × (position (clash_dmr dmr) rules ≡ Some k) × (OverlapDmr k ≡ OverlapDmr i) = map-Some OverlapDmr (position (clash_dmr dmr) rules) (OverlapDmr i) found in
     let same : place.0 ≡ i = (let e = place.2 in cc) in
-    let P : ℕ → Type 0 = λ n. IsFirstInDmr dmr rules n in
-    subst P same (first_in-dmr dmr rules place.0 place.1)
+    let P : ℕ → Type 0 = λ n. IsFirstPlace (clash_dmr dmr) rules n in
+    subst P same ((position-exactly (clash_dmr dmr) rules place.0).0 place.1)
 
 -- a fault of another kind isn't the one found
-four-kind : (rules : List Rule) (fault : BookFault) → four rules ≡ Some fault → (i : ℕ) × (j : ℕ) × (Overlap4 i j ≡ fault)
+pub four-kind : (rules : List Rule) (fault : BookFault) → four rules ≡ Some fault → (i : ℕ) × (j : ℕ) × (Overlap4 i j ≡ fault)
 four-kind rules fault found =
     let pair : (p : ℕ × ℕ) × (first_pair clash4 rules ≡ Some p) × (Overlap4 p.0 p.1 ≡ fault) = map-Some (λ p. Overlap4 p.0 p.1) (first_pair clash4 rules) fault found in
     (pair.0.0, pair.0.1, pair.2)
 
-six-kind : (rules : List Rule) (fault : BookFault) → six rules ≡ Some fault → (i : ℕ) × (j : ℕ) × (Overlap6 i j ≡ fault)
+pub six-kind : (rules : List Rule) (fault : BookFault) → six rules ≡ Some fault → (i : ℕ) × (j : ℕ) × (Overlap6 i j ≡ fault)
 six-kind rules fault found =
     let pair : (p : ℕ × ℕ) × (first_pair clash6 rules ≡ Some p) × (Overlap6 p.0 p.1 ≡ fault) = map-Some (λ p. Overlap6 p.0 p.1) (first_pair clash6 rules) fault found in
     (pair.0.0, pair.0.1, pair.2)
 
-dmr-kind : (rules : List Rule) (dmr : Dmr) (fault : BookFault) → dmr_at rules dmr ≡ Some fault → (i : ℕ) × (OverlapDmr i ≡ fault)
+pub dmr-kind : (rules : List Rule) (dmr : Dmr) (fault : BookFault) → dmr_at rules dmr ≡ Some fault → (i : ℕ) × (OverlapDmr i ≡ fault)
 dmr-kind rules dmr fault found =
     let place : (k : ℕ) × (position (clash_dmr dmr) rules ≡ Some k) × (OverlapDmr k ≡ fault) = map-Some OverlapDmr (position (clash_dmr dmr) rules) fault found in
     (place.0, place.2)
@@ -188,9 +178,8 @@ four≢dmr i j k e = cc
 six≢dmr : (i j k : ℕ) → ¬ (Overlap6 i j ≡ OverlapDmr k)
 six≢dmr i j k e = cc
 
-pub overlap4-least : (rules : List Rule) (dmr : Dmr) (i j : ℕ) → refusal_of rules dmr ≡ Some (Overlap4 i j) → IsLeastPair clash4 rules i j
-overlap4-least rules dmr i j refused =
-    let found = overlap-fault rules dmr (Overlap4 i j) (many≢four i j) refused in
+pub overlap4-found : (rules : List Rule) (dmr : Dmr) (i j : ℕ) → overlap_of rules dmr ≡ Some (Overlap4 i j) → IsLeastPair clash4 rules i j
+overlap4-found rules dmr i j found =
     elim (or-Some (four rules) (option_or (six rules) (dmr_at rules dmr)) (Overlap4 i j) found) [
       | inl here ↦ from_four rules i j here
       | inr past ↦ elim (or-Some (six rules) (dmr_at rules dmr) (Overlap4 i j) past.1) [
@@ -199,9 +188,11 @@ overlap4-least rules dmr i j refused =
       ]
     ]
 
-pub overlap6-least : (rules : List Rule) (dmr : Dmr) (i j : ℕ) → refusal_of rules dmr ≡ Some (Overlap6 i j) → IsLeastPair clash6 rules i j
-overlap6-least rules dmr i j refused =
-    let found = overlap-fault rules dmr (Overlap6 i j) (many≢six i j) refused in
+pub overlap4-least : (rules : List Rule) (dmr : Dmr) (i j : ℕ) → refusal_of rules dmr ≡ Some (Overlap4 i j) → IsLeastPair clash4 rules i j
+overlap4-least rules dmr i j refused = overlap4-found rules dmr i j (overlap-fault rules dmr (Overlap4 i j) (many≢four i j) refused)
+
+pub overlap6-found : (rules : List Rule) (dmr : Dmr) (i j : ℕ) → overlap_of rules dmr ≡ Some (Overlap6 i j) → IsLeastPair clash6 rules i j
+overlap6-found rules dmr i j found =
     elim (or-Some (four rules) (option_or (six rules) (dmr_at rules dmr)) (Overlap6 i j) found) [
       | inl other ↦ (let kind = four-kind rules (Overlap6 i j) other in absurd (four≢six kind.0 kind.1 i j kind.2))
       | inr past ↦ elim (or-Some (six rules) (dmr_at rules dmr) (Overlap6 i j) past.1) [
@@ -210,9 +201,11 @@ overlap6-least rules dmr i j refused =
       ]
     ]
 
-pub overlap_dmr-least : (rules : List Rule) (dmr : Dmr) (i : ℕ) → refusal_of rules dmr ≡ Some (OverlapDmr i) → IsFirstInDmr dmr rules i
-overlap_dmr-least rules dmr i refused =
-    let found = overlap-fault rules dmr (OverlapDmr i) (many≢dmr i) refused in
+pub overlap6-least : (rules : List Rule) (dmr : Dmr) (i j : ℕ) → refusal_of rules dmr ≡ Some (Overlap6 i j) → IsLeastPair clash6 rules i j
+overlap6-least rules dmr i j refused = overlap6-found rules dmr i j (overlap-fault rules dmr (Overlap6 i j) (many≢six i j) refused)
+
+pub overlap_dmr-found : (rules : List Rule) (dmr : Dmr) (i : ℕ) → overlap_of rules dmr ≡ Some (OverlapDmr i) → IsFirstPlace (clash_dmr dmr) rules i
+overlap_dmr-found rules dmr i found =
     elim (or-Some (four rules) (option_or (six rules) (dmr_at rules dmr)) (OverlapDmr i) found) [
       | inl other ↦ (let kind = four-kind rules (OverlapDmr i) other in absurd (four≢dmr kind.0 kind.1 i kind.2))
       | inr past ↦ elim (or-Some (six rules) (dmr_at rules dmr) (OverlapDmr i) past.1) [
@@ -220,6 +213,9 @@ overlap_dmr-least rules dmr i refused =
         | inr here ↦ from_dmr rules dmr i here.1
       ]
     ]
+
+pub overlap_dmr-least : (rules : List Rule) (dmr : Dmr) (i : ℕ) → refusal_of rules dmr ≡ Some (OverlapDmr i) → IsFirstPlace (clash_dmr dmr) rules i
+overlap_dmr-least rules dmr i refused = overlap_dmr-found rules dmr i (overlap-fault rules dmr (OverlapDmr i) (many≢dmr i) refused)
 
 -- valid rules aren't refused
 all-None : {X : Type 0} (a b c d : Option X) → a ≡ None → b ≡ None → c ≡ None → d ≡ None → option_or a (option_or b (option_or c d)) ≡ None

@@ -6,3 +6,6 @@ pub mod FarEnds
 pub mod OneHolder
 pub mod LeastPlaces
 pub mod Names
+pub mod ChangePlaces
+pub mod FirstNames
+pub mod Same

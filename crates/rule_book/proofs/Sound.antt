@@ -12,7 +12,7 @@ use Rattle.rule_book.specs.declared.fault.BookFault.{BookFault}
 use Rattle.rule_book.specs.declared.fault.BookFault.TheVariants.{Overlap4, Overlap6, OverlapDmr}
 use Rattle.rule_book.specs.Valid.{IsValid, clash4, clash6, clash_dmr}
 use Rattle.rule_book.specs.Refusal.{pair_after, first_pair, too_many, overlap_of, refusal_of}
-use Rattle.rule_book.proofs.Places.{position-None}
+use Rattle.octets.proofs.Places.{position-none}
 
 -- neither of two choices was taken
 pub or-None : {X : Type 0} (a b : Option X) → option_or a b ≡ None → (a ≡ None) × (b ≡ None)
@@ -34,7 +34,7 @@ no_pair clash before [] none apart =
 no_pair clash before (r ∷ rules) none apart =
     let parts : (option_map (λ i. (i, length before)) (position (λ s. clash s r) before) ≡ None) × (pair_after clash (before ++ r ∷ []) rules ≡ None) = or-None _ _ none in
     let alone : position (λ s. clash s r) before ≡ None = map-None _ _ parts.0 in
-    let joined : Apart clash (before ++ r ∷ []) = all_pairs_push (λ r s. ¬ IsTrue (clash r s)) before r apart (λ k d within yes. absurd (false≢true (sym (position-None (λ s. clash s r) before alone k d within) ∙ yes))) in
+    let joined : Apart clash (before ++ r ∷ []) = all_pairs_push (λ r s. ¬ IsTrue (clash r s)) before r apart (λ k d within yes. absurd (false≢true (sym (position-none (λ s. clash s r) before alone k d within) ∙ yes))) in
     let P : List Rule → Type 0 = λ xs. Apart clash xs in
     subst P (append_assoc before (r ∷ []) rules) (no_pair clash (before ++ r ∷ []) rules parts.1 joined)
 
@@ -59,7 +59,7 @@ valid-unless_overlap rules dmr few none =
       few = few;
       apart4 = first_pair-None clash4 rules (map-None (λ p. Overlap4 p.0 p.1) (first_pair clash4 rules) four.0);
       apart6 = first_pair-None clash6 rules (map-None (λ p. Overlap6 p.0 p.1) (first_pair clash6 rules) six.0);
-      apart_dmr = λ k d within yes. absurd (false≢true (sym (position-None (clash_dmr dmr) rules apart k d within) ∙ yes));
+      apart_dmr = λ k d within yes. absurd (false≢true (sym (position-none (clash_dmr dmr) rules apart k d within) ∙ yes));
     }
 
 pub valid-unless_refused : (rules : List Rule) (dmr : Dmr) → refusal_of rules dmr ≡ None → IsValid rules dmr

@@ -1,9 +1,7 @@
--- What a refusal that names places tells: the least rules that show it.
+-- What a refusal that names two places tells: the least rules that show it.
 use Rattle.std.specs.Prelude.{ℕ, ◌<◌, Bool, IsTrue, List, length, take, slice_index_or}
 use Rattle.std.specs.List.{AllPairs}
 use Rattle.map_rules.specs.declared.rule.Rule.{Rule}
-use Rattle.map_rules.specs.declared.dmr.Dmr.{Dmr}
-use Rattle.rule_book.specs.Valid.{clash_dmr}
 
 -- the rules at places i and j clash, the earlier first. No two of the rules before j do, so none does with
 -- a later rule before j; and none before i clashes with the one at j
@@ -13,9 +11,3 @@ pub record IsLeastPair (clash : Rule → Rule → Bool) (rules : List Rule) (i j
   pub clashes : (d : Rule) → IsTrue (clash (slice_index_or rules i d) (slice_index_or rules j d))
   pub before : AllPairs (λ r s. ¬ IsTrue (clash r s)) (take j rules)
   pub earlier : (k : ℕ) (d : Rule) → k < i → ¬ IsTrue (clash (slice_index_or rules k d) (slice_index_or rules j d))
-
--- the rule at place i overlaps the default mapping rule, and none before it does
-pub record IsFirstInDmr (dmr : Dmr) (rules : List Rule) (i : ℕ) : Type 0 where
-  pub within : i < length rules
-  pub clashes : (d : Rule) → IsTrue (clash_dmr dmr (slice_index_or rules i d))
-  pub earlier : (k : ℕ) (d : Rule) → k < i → ¬ IsTrue (clash_dmr dmr (slice_index_or rules k d))

@@ -4,6 +4,7 @@
 
 mod book;
 mod change;
+mod equal;
 mod fault;
 mod holder;
 mod laws;
@@ -17,9 +18,12 @@ mod view;
 
 pub use book::Book;
 pub use change::Change;
+pub use equal::equal_values_are_the_same;
 pub use fault::BookFault;
 pub use holder::one_holder;
-pub use laws::refusals_name_the_least;
+pub use laws::{
+    an_edge_is_named_by_the_first_prefix, refusals_name_the_least, refused_changes_name_the_least,
+};
 pub use lines::{RuleParts, dmr_line};
 pub use owner::owner_line;
 pub use view::{FarOf, RuleView};
