@@ -4,3 +4,4 @@ pub mod Tables
 pub mod Stages
 pub mod OneAnswer
 pub mod OneReading
+pub mod FirstEdges

@@ -7,4 +7,5 @@ pub mod EdgeName
 pub mod Edge
 pub mod Shapes
 pub mod Crowd
+pub mod Beside
 pub mod Setup

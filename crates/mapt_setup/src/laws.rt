@@ -1,11 +1,37 @@
-//! What holds of configurations beyond one call. The law is the contract of a function that does nothing.
+//! What holds of configurations beyond one call. Each law is the contract of a function that
+//! does nothing.
 
-ghost use Rattle.std.specs.Prelude.{◌≡◌, ℕ, List, Result};
+ghost use Rattle.std.specs.Prelude.{◌≡◌, ◌↔◌, ℕ, List, IsTrue, Some, None, Result};
+ghost use Rattle.octets.specs.Place.{IsFirstPlace};
+ghost use Rattle.map_rules.specs.declared.dmr.Dmr.{Dmr as DmrType};
+ghost use Rattle.mapt_setup.specs.declared.edge.EdgeLine.{EdgeLine as EdgeType};
+ghost use Rattle.mapt_setup.specs.declared.fault.SetupCause.{SetupCause as CauseType};
+ghost use Rattle.mapt_setup.specs.declared.fault.SetupCause.TheVariants.{EdgeName, EdgeOverlap, EdgeOverDmr};
+ghost use Rattle.mapt_setup.specs.declared.fault.SetupFault.TheVariants.{Refused};
+ghost use Rattle.mapt_setup.specs.Crowd.{has_name_of, is_crowded, is_over, edge_fault};
+ghost use Rattle.mapt_setup.specs.Beside.{IsFirstBeside, AreApart};
 ghost use Rattle.mapt_setup.specs.declared.setup.Setup.{Setup as SetupType};
 ghost use Rattle.mapt_setup.specs.declared.fault.SetupFault.{SetupFault as SetupFaultType};
 ghost use Rattle.mapt_setup.specs.Setup.{setup_of};
 
+use crate::{SetupCause, SetupFault};
+
 /// Octets have at most one answer: what they set up, or the first fault.
 pub fn octets_have_at_most_one_answer()
     ensures { (octets : List ℕ) (one other : Result SetupType SetupFaultType) → setup_of octets one → setup_of octets other → one ≡ other }
+{}
+
+/// Edges are refused beside one another exactly where two names are the same, a prefix is too long, or two
+/// prefixes overlap, and the place is that of the first edge of which it is true.
+pub fn refused_edges_are_the_first()
+    ensures apart { (edges : List EdgeType) (dmr : DmrType) → (edge_fault edges dmr ≡ None) ↔ AreApart edges dmr }
+    ensures name { (edges : List EdgeType) (dmr : DmrType) (i : ℕ) → edge_fault edges dmr ≡ Some (Refused EdgeName i) → IsFirstBeside has_name_of edges i }
+    ensures overlap { (edges : List EdgeType) (dmr : DmrType) (i : ℕ) → edge_fault edges dmr ≡ Some (Refused EdgeOverlap i) → IsFirstBeside is_crowded edges i }
+    ensures over_dmr { (edges : List EdgeType) (dmr : DmrType) (i : ℕ) → edge_fault edges dmr ≡ Some (Refused EdgeOverDmr i) → IsFirstPlace (is_over dmr) edges i }
+{}
+
+/// Two causes, or two faults, are `==` exactly where they are the same.
+pub fn equal_faults_are_the_same()
+    ensures cause { (one other : CauseType) → IsTrue (⟦<SetupCause as PartialEq>⟧.eq one other) ↔ (one ≡ other) }
+    ensures fault { (one other : SetupFaultType) → IsTrue (⟦<SetupFault as PartialEq>⟧.eq one other) ↔ (one ≡ other) }
 {}

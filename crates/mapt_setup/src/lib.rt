@@ -16,7 +16,9 @@ mod spelled;
 
 pub use edge::{EdgeLine, Edges};
 pub use fault::{SetupCause, SetupFault};
-pub use laws::octets_have_at_most_one_answer;
+pub use laws::{
+    equal_faults_are_the_same, octets_have_at_most_one_answer, refused_edges_are_the_first,
+};
 pub use setup::Setup;
 
 #[cfg(test)]
