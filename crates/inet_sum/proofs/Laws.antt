@@ -46,15 +46,20 @@ pub right_adjusted : (rest rest' c old new : ℕ) → folded (rest + c) ≡ 6553
 right_adjusted rest rest' c old new right change some =
     folded_full _ some (alike_adjusted rest rest' c old new change ∙ (full_folded _ right).1)
 
+some_as_udp : (x d : ℕ) → 0 < x + as_udp d
+some_as_udp x d = grind arith
+
+alike_as_udp : (x d : ℕ) → (x + as_udp d) % 65535 ≡ (x + d) % 65535
+alike_as_udp x d = grind arith
+
+-- words with their check sum as UDP writes it fold to 65535
+pub folded-udp_check : (w : ℕ) → folded (w + as_udp (check_sum w)) ≡ 65535
+folded-udp_check w =
+    folded_full _ (some_as_udp w (check_sum w)) (alike_as_udp w (check_sum w) ∙ (full_folded _ (folded-check_sum w)).1)
+
 -- The same for a check sum as UDP writes it, whatever the words are.
 pub right_as_udp : (rest rest' c old new : ℕ) → folded (rest + c) ≡ 65535 → rest' + old ≡ rest + new → folded (rest' + as_udp (adjusted c old new)) ≡ 65535
 right_as_udp rest rest' c old new right change =
     let alike = alike_adjusted rest rest' c old new change in
     let whole = (full_folded _ right).1 in
     folded_full _ (some_as_udp rest' (adjusted c old new)) (alike_as_udp rest' (adjusted c old new) ∙ (alike ∙ whole))
-  where
-    some_as_udp : (x d : ℕ) → 0 < x + as_udp d
-    some_as_udp x d = grind arith
-
-    alike_as_udp : (x d : ℕ) → (x + as_udp d) % 65535 ≡ (x + d) % 65535
-    alike_as_udp x d = grind arith

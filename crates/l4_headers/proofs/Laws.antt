@@ -161,3 +161,12 @@ right_udp rest rest' old new payload ports stands src dst change right =
   where
     as_udp_fits : (d : ℕ) → d < 65535 → as_udp d < 65536
     as_udp_fits d below = grind arith
+
+-- the words of a datagram with a sum, and with 0 in its place
+pub words-with_sum : (sum : ℕ) (payload : List ℕ) (ports : Ports) → 8 ≤ length payload → ports.src < 65536 → ports.dst < 65536 → sum < 65536
+    → words (with_l4 Udp payload ports sum) ≡ words (with_l4 Udp payload ports 0) + sum
+unfolding with_ports
+words-with_sum sum payload ports stands src dst fits =
+    let one = words-others 6 ports sum payload (omega arith) (omega arith) (omega arith) src dst fits in
+    let none = words-others 6 ports 0 payload (omega arith) (omega arith) (omega arith) src dst (omega arith) in
+    omega (arith, one.1, none.1)

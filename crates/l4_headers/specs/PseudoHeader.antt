@@ -1,5 +1,6 @@
 -- The pseudo headers that transport sums cover beside the payload: a right sum is one of pseudo header and payload.
-use Rattle.std.specs.Prelude.{ℕ, List, [], ◌∷◌, ◌++◌}
+use Rattle.std.specs.Prelude.{◌≡◌, ℕ, ◌+◌, List, [], ◌∷◌, ◌++◌}
+use Rattle.inet_sum.specs.Sum.{words, folded}
 use Rattle.octets.specs.Field.{in_word, in_quad, in_sixteen}
 use Rattle.octets.specs.declared.address.Addr4.{Addr4}
 use Rattle.octets.specs.declared.address.Addr6.{Addr6}
@@ -14,3 +15,8 @@ pseudo_header4 src dst protocol len = in_quad src.0 ++ in_quad dst.0 ++ 0 ∷ pr
 abbrev pub pseudo_header6 : Addr6 → Addr6 → ℕ → ℕ → List ℕ
 pseudo_header6 src dst protocol len =
     in_sixteen src.0 ++ in_sixteen dst.0 ++ in_quad len ++ 0 ∷ 0 ∷ 0 ∷ protocol ∷ []
+
+-- The transport sum in this payload is right over this pseudo header. Of a whole packet nothing comes later; of a
+-- first fragment the later fragments' payloads do, whose words have this sum.
+abbrev pub IsRightOver : List ℕ → List ℕ → ℕ → Type 0
+IsRightOver pseudo payload later = folded (words pseudo + words payload + later) ≡ 65535

@@ -1,6 +1,6 @@
 -- A TCP or UDP packet of IPv4 translated to IPv6 as a whole: its header by the table of headers, its ports
 -- replaced, its sum changed with them (RFC 7915, sections 4.1 and 4.5).
-use Rattle.std.specs.Prelude.{◌≡◌, ◌≢◌, ℕ, ◌+◌, ◌≤◌, ◌↔◌, Bool, false, not, IsTrue, ◌&&◌, ◌==◌, if◌then◌else◌, List, length, Option, None, Some, IsSome}
+use Rattle.std.specs.Prelude.{◌≡◌, ◌≢◌, ℕ, ◌+◌, ◌<◌, ◌≤◌, ◌↔◌, Bool, false, not, IsTrue, ◌&&◌, ◌==◌, if◌then◌else◌, List, length, Option, None, Some, IsSome}
 use Rattle.octets.specs.Field.{word, in_quad, in_sixteen}
 use Rattle.octets.specs.Protocol.{proto4}
 use Rattle.octets.specs.declared.address.Addr6.{Addr6}
@@ -53,14 +53,16 @@ lacks_sum Tcp fragment sum = false
 lacks_sum Udp fragment sum = not fragment && sum == 0
 lacks_sum Icmp fragment sum = false
 
+abbrev pub has_no_sum : Parts4 → Bool
+has_no_sum p = lacks_sum p.proto (is_fragment p.head) (l4_of p.proto p.payload).sum
+
 -- The sum of a packet with these ports: computed where there was none, and else changed by the words of both
 -- addresses and both ports.
 abbrev pub sum46 : Parts4 → Addr6 → Addr6 → Ports → ℕ
 sum46 p src dst ports =
-    let l4 = l4_of p.proto p.payload in
-    if lacks_sum p.proto (is_fragment p.head) l4.sum
+    if has_no_sum p
     then computed_udp_sum (words (pseudo_header6 src dst 17 (length p.payload))) p.payload ports
-    else readdressed_sum p.proto l4 (addresses_before p.head) (addresses_after src dst) ports
+    else readdressed_sum p.proto (l4_of p.proto p.payload) (addresses_before p.head) (addresses_after src dst) ports
 
 -- The payload with its new ports and that sum. A later fragment has none of them, and its payload stays as it is.
 abbrev pub payload46 : Parts4 → Addr6 → Addr6 → Option Ports → List ℕ
@@ -74,6 +76,10 @@ packet46 p src dst ports = written6 (translated p.head src dst) (payload46 p src
 -- ports are given exactly to a packet that has some: to all but a later fragment
 abbrev pub HasPorts : Head4 → Option Ports → Type 0
 HasPorts head ports = IsSome ports ↔ (head.offset ≡ 0)
+
+-- ports are numbers of 16 bits
+abbrev pub ArePorts : Ports → Type 0
+ArePorts ports = (ports.src < 65536) × (ports.dst < 65536)
 
 -- what is translated: a packet with none of those causes and a TTL of at least 2, with ports unless it is a later
 -- fragment

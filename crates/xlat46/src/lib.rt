@@ -2,7 +2,9 @@
 #![tactic(auto)]
 
 mod head;
+mod laws;
 mod whole;
 
 pub use head::head46;
+pub use laws::a_right_sum_stays_right_over_ipv6;
 pub use whole::{packet46, whole46};
