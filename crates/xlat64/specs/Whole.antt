@@ -1,6 +1,6 @@
 -- A TCP or UDP packet of IPv6 translated to IPv4 as a whole: its header by the table of headers, its ports
 -- replaced, its sum changed with them (RFC 7915, sections 5.1 and 5.5).
-use Rattle.std.specs.Prelude.{◌≡◌, ◌≢◌, ℕ, ◌+◌, ◌≤◌, ◌↔◌, Bool, not, List, Option, None, Some, IsSome}
+use Rattle.std.specs.Prelude.{◌≡◌, ◌≢◌, ℕ, ◌+◌, ◌<◌, ◌≤◌, ◌↔◌, Bool, not, List, Option, None, Some, IsSome}
 use Rattle.octets.specs.Field.{word, in_quad, in_sixteen}
 use Rattle.octets.specs.Protocol.{proto6}
 use Rattle.octets.specs.declared.address.Addr4.{Addr4}
@@ -67,6 +67,10 @@ packet64 p src dst ports id = written4 (translated p.head src dst id) (payload64
 -- ports are given exactly to a packet that has some: to all but a later fragment
 abbrev pub HasPorts : Head6 → Option Ports → Type 0
 HasPorts head ports = IsSome ports ↔ (fragment_offset head.frag ≡ 0)
+
+-- ports are numbers of 16 bits
+abbrev pub ArePorts : Ports → Type 0
+ArePorts ports = (ports.src < 65536) × (ports.dst < 65536)
 
 -- what is translated: a packet with none of those causes and a hop limit of at least 2, whose upper payload fits
 -- IPv4, with ports unless it is a later fragment
