@@ -30,6 +30,10 @@ pub record Cut : Type 0 where
   pub step : ℕ
   pub id : ℕ
 
+-- a packet with these headers and this payload, cut for an MTU
+abbrev pub cut_for : Head6 → List ℕ → ℕ → ℕ → Cut
+cut_for h payload mtu6 id = record { head = h; payload = payload; step = step_of mtu6; id = id }
+
 -- The piece whose payload begins at this place of the packet's. Offset and "more fragments" continue those of the
 -- packet: only a piece that ends where the packet ends has the packet's flag.
 abbrev pub piece_payload : Cut → ℕ → List ℕ
@@ -72,10 +76,14 @@ joined cut (suc n) = joined cut n ++ piece_payload cut (n * cut.step)
 -- and announces more exactly where octets of the packet follow it, or the packet itself announced more. Together
 -- they give the packet's payload again, without gap or overlap.
 pub record GiveAgain (cut : Cut) (n : ℕ) : Type 0 where
-  pub reads : (k : ℕ) → k * cut.step < length cut.payload → let at = k * cut.step in Is6 (piece_head cut at) (piece_payload cut at) (piece cut at).bytes
-  pub begins : (k : ℕ) → k * cut.step < length cut.payload → (piece_frag cut (k * cut.step)).offset * 8 ≡ own_offset cut.head.frag * 8 + length (joined cut k)
-  pub more_inside : (k : ℕ) → length (joined cut (suc k)) < length cut.payload → (piece_frag cut (k * cut.step)).more ≡ true
-  pub more_at_end : (k : ℕ) → length (joined cut (suc k)) ≡ length cut.payload → (piece_frag cut (k * cut.step)).more ≡ own_more cut.head.frag
+  pub reads : (k : ℕ) → k * cut.step < length cut.payload
+      → Is6 (piece_head cut (k * cut.step)) (piece_payload cut (k * cut.step)) (piece cut (k * cut.step)).bytes
+  pub begins : (k : ℕ) → k * cut.step < length cut.payload
+      → (piece_frag cut (k * cut.step)).offset * 8 ≡ own_offset cut.head.frag * 8 + length (joined cut k)
+  pub more_inside : (k : ℕ) → length (joined cut (suc k)) < length cut.payload
+      → (piece_frag cut (k * cut.step)).more ≡ true
+  pub more_at_end : (k : ℕ) → length (joined cut (suc k)) ≡ length cut.payload
+      → (piece_frag cut (k * cut.step)).more ≡ own_more cut.head.frag
   pub again : joined cut n ≡ cut.payload
 
 -- no piece has more octets than this

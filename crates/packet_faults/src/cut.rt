@@ -3,7 +3,7 @@
 ghost use Rattle.std.specs.Prelude.{◌≡◌, ◌+◌, ◌*◌, ◌<◌, ◌≤◌, ◌%◌, List, ℕ, length, IfOk};
 ghost use Rattle.ip6_packet.specs.declared.head.Head6.{Head6 as Header};
 ghost use Rattle.ip6_packet.specs.Written.{written6, IsUpper};
-ghost use Rattle.packet_faults.specs.Cut.{own_offset, own_more, step_of, piece_head, piece_payload, piece, AreCut, GiveAgain, EachFits, IsCuttable};
+ghost use Rattle.packet_faults.specs.Cut.{own_offset, own_more, cut_for, step_of, piece_head, piece_payload, piece, AreCut, GiveAgain, EachFits, IsCuttable};
 
 use ip6_packet::{Frag6, Head6};
 use octets::{Bytes, NoMemory, Parcel, Parcels};
@@ -72,9 +72,9 @@ pub fn cut6(alloc: Global, packet: &[u8], mtu6: u16, id: u32) -> Result<Parcels,
     requires written { (h : Header) × (payload : List ℕ) × IsCuttable h payload packet.now }
     requires longer { mtu6 < length packet.now }
     requires least { 1280 ≤ mtu6 }
-    ensures cut { (h : Header) (payload : List ℕ) → IsCuttable h payload packet.now → IfOk result (λ pieces. AreCut (record { head = h; payload = payload; step = step_of mtu6; id = id }) pieces) }
+    ensures cut { (h : Header) (payload : List ℕ) → IsCuttable h payload packet.now → IfOk result (λ pieces. AreCut (cut_for h payload mtu6 id) pieces) }
     // The pieces give the payload again.
-    ensures again { (h : Header) (payload : List ℕ) → IsCuttable h payload packet.now → IfOk result (λ pieces. GiveAgain (record { head = h; payload = payload; step = step_of mtu6; id = id }) (length pieces)) }
+    ensures again { (h : Header) (payload : List ℕ) → IsCuttable h payload packet.now → IfOk result (λ pieces. GiveAgain (cut_for h payload mtu6 id) (length pieces)) }
     ensures fits { (h : Header) (payload : List ℕ) → IsCuttable h payload packet.now → IfOk result (λ pieces. EachFits mtu6 pieces) }
 {
     let Some(head) = Head6::read_embedded(packet) else {

@@ -4,7 +4,7 @@ ghost use Rattle.std.specs.Prelude.{◌≡◌, ◌≤◌, ◌↔◌, IsTrue, Lis
 ghost use Rattle.ip6_packet.specs.declared.head.Head6.{Head6 as Header};
 ghost use Rattle.ip6_packet.specs.Grammar.{Is6};
 ghost use Rattle.ip6_packet.specs.Causes.{HasNoCause6};
-ghost use Rattle.packet_faults.specs.Error.{IsError6, IsLater6, IsUnanswered6, embedded6, error_head6, error_message6, error6};
+ghost use Rattle.packet_faults.specs.Error.{IsError6, IsLater6, IsUnanswered6, said, embedded6, error_head6, error_message6, error6};
 
 use icmp_messages::Icmp6;
 use ip6_packet::{Frag6, Head6, is_no_destination};
@@ -72,7 +72,7 @@ pub fn fault6(
 ) -> Result<Option<Bytes>, NoMemory>
     requires { HasNoCause6 packet.now }
     ensures none { (h : Header) (payload : List ℕ) → Is6 h payload packet.now → IfOk result (λ error. (error ≡ None) ↔ IsUnanswered6 h payload) }
-    ensures error { (h : Header) (payload : List ℕ) → Is6 h payload packet.now → IfOk result (λ error. IfSome error (λ octets. octets ≡ error6 h packet.now (record { kind = kind; code = code; rest = rest }) src)) }
+    ensures error { (h : Header) (payload : List ℕ) → Is6 h payload packet.now → IfOk result (λ error. IfSome error (λ octets. octets ≡ error6 h packet.now (said kind code rest) src)) }
     ensures bounded { IfOk result (λ error. IfSome error (λ octets. length octets ≤ 1280)) }
 {
     let Ok(head) = Head6::read(packet) else {
