@@ -72,6 +72,8 @@ pub fn fault4(
     ensures none { (h : Header) (payload : List ℕ) → Is4 h payload packet.now → IfOk result (λ error. (error ≡ None) ↔ IsUnanswered4 h payload) }
     ensures error { (h : Header) (payload : List ℕ) → Is4 h payload packet.now → IfOk result (λ error. IfSome error (λ octets. octets ≡ error4 h packet.now (said kind code rest) src id)) }
     ensures bounded { IfOk result (λ error. IfSome error (λ octets. length octets ≤ 576)) }
+    // The error is a packet that the header reader accepts.
+    ensures accepted { IfOk result (λ error. IfSome error (λ octets. HasNoCause4 octets)) }
 {
     let Ok(head) = Head4::read(packet) else {
         unreachable!();

@@ -74,6 +74,8 @@ pub fn fault6(
     ensures none { (h : Header) (payload : List ℕ) → Is6 h payload packet.now → IfOk result (λ error. (error ≡ None) ↔ IsUnanswered6 h payload) }
     ensures error { (h : Header) (payload : List ℕ) → Is6 h payload packet.now → IfOk result (λ error. IfSome error (λ octets. octets ≡ error6 h packet.now (said kind code rest) src)) }
     ensures bounded { IfOk result (λ error. IfSome error (λ octets. length octets ≤ 1280)) }
+    // The error is a packet that the header reader accepts.
+    ensures accepted { IfOk result (λ error. IfSome error (λ octets. HasNoCause6 octets)) }
 {
     let Ok(head) = Head6::read(packet) else {
         unreachable!();

@@ -1,4 +1,5 @@
-use Rattle.std.proofs.Common.{◌≡◌, refl, sym, ap, ◌∙◌, rules}
+use Rattle.std.proofs.Common.{◌≡◌, inr, refl, sym, ap, ◌∙◌, rules}
+use Rattle.ip6_packet.specs.Causes.{IsNoDestination6}
 use Rattle.ip6_packet.specs.declared.head.Head6.{Head6}
 use Rattle.ip6_packet.specs.Grammar.{payload_of}
 use Rattle.packet_faults.specs.Error.{IsUnanswered6}
@@ -25,3 +26,8 @@ returns-clause-none c = λ h payload is.
     let e : h ≡ c.in-Ok.head = cc (read, c.in-Ok.is) in
     let p : payload ≡ c.payload.result.now = is.payload_is ∙ (ap (λ (x : Head6). payload_of x packet) e ∙ sym c.payload.ensures) in
     (λ none. cc, λ unanswered. let answered = c.is_unanswered.ensures.1 (rw (e, p) at unanswered) in cc)
+
+pub returns-clause-accepted : goal.returns-clause-accepted
+returns-clause-accepted c =
+    let host : IsNoDestination6 c.in-Ok.head.src.0 → ⊥ = λ none. let answered = c.is_unanswered.ensures.1 (inr (inr none)) in cc in
+    (c.in_ok-write.ensures.again (refl, λ wrong. wrong, host)).1
