@@ -1,13 +1,14 @@
 -- A reader that answers a header without a cause, or the least cause, answers as its contract says.
+pub use Rattle.octets.proofs.CauseNumbers.{below}
 use Rattle.std.proofs.Common.{◌≡◌, ◌≢◌, ℕ, ◌-◌, ◌<◌, ◌≤◌, List, ◌++◌, length, take, Result, Ok, Err, inl, inr, refl, sym, ◌∙◌, arith}
 use Rattle.std.specs.Prelude.{IfOk, IfErr}
 use Rattle.octets.specs.declared.cause.Cause.{Cause}
-use Rattle.octets.specs.declared.cause.Cause.TheVariants.{NotIp, Truncated, BadHeader, BadHeaderSum, BadDestination, SourceRoute, UnsupportedProtocol, IcmpFragment, BadTransport, IcmpSum, IcmpKind, BadInner, NoUdpSum, NoBasicRule, WrongDestination, FragmentsFull, Spoofed, NotDefault, NoOwner, NoBinding, NoPort, TtlSpent, TooBig}
+use Rattle.octets.specs.declared.cause.Cause.TheVariants.{NotIp, Truncated, BadHeader, BadHeaderSum, BadDestination}
 use Rattle.octets.specs.Cause.{number_of}
 use Rattle.ip4_packet.specs.declared.head.Head4.{Head4}
 use Rattle.octets.specs.Field.{octet, word, quad}
 use Rattle.ip4_packet.specs.Grammar.{header_len, total_len, option_octets, HasFields4, Is4, payload_of}
-use Rattle.ip4_packet.specs.Causes.{IsTruncated4, HasCause4, HasNoCause4, IsCause4, StaysRead}
+use Rattle.ip4_packet.specs.Causes.{IsTruncated4, HasCause4, HasNoCause4, IsCause4, StaysRead4}
 use Rattle.std.proofs.lemmas.List.{take-append-le, get_or_append_left, length-append}
 use Rattle.std.proofs.lemmas.Bool.{cases_lt}
 use Rattle.octets.proofs.Parts.{number-append, part-append}
@@ -23,32 +24,6 @@ spared octets n a b c d e BadHeader h has = c h has
 spared octets n a b c d e BadHeaderSum h has = d h has
 spared octets n a b c d e BadDestination h has = e h has
 spared octets n a b c d e _ h has = has
-
--- there is no number above that of the last
-pub below : (c : Cause) → number_of c < 24
-below NotIp = omega arith
-below Truncated = omega arith
-below BadHeader = omega arith
-below BadHeaderSum = omega arith
-below BadDestination = omega arith
-below SourceRoute = omega arith
-below UnsupportedProtocol = omega arith
-below IcmpFragment = omega arith
-below BadTransport = omega arith
-below IcmpSum = omega arith
-below IcmpKind = omega arith
-below BadInner = omega arith
-below NoUdpSum = omega arith
-below NoBasicRule = omega arith
-below WrongDestination = omega arith
-below FragmentsFull = omega arith
-below Spoofed = omega arith
-below NotDefault = omega arith
-below NoOwner = omega arith
-below NoBinding = omega arith
-below NoPort = omega arith
-below TtlSpent = omega arith
-below TooBig = omega arith
 
 -- the parts of the header that causes speak of are the same
 pub record SameHeader (octets longer : List ℕ) : Type 0 where
@@ -170,7 +145,7 @@ refused_longer _ octets more is ne some = absurd is.0
 
 -- what was read stays read
 pub stays : (read : Result Head4 Cause) (octets more : List ℕ) → IfOk read (λ h. Is4 h (payload_of h octets) octets × HasNoCause4 octets)
-    → IfErr read (λ c. IsCause4 c octets) → StaysRead read octets (octets ++ more)
+    → IfErr read (λ c. IsCause4 c octets) → StaysRead4 read octets (octets ++ more)
 stays (Ok h) octets more found refused =
     let is = long octets (found.1 Truncated) in
     (longer_is h (payload_of h octets) octets more is found.0, λ c has. found.1 c (longer_has octets more is c has))

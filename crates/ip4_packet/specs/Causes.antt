@@ -58,9 +58,9 @@ IsCause4 cause octets = IsLeast (λ cause. HasCause4 cause octets) cause
 
 -- What was read of the octets holds of a longer list of octets too. Only octets that were too few, or
 -- none, may be judged otherwise.
-abbrev pub StaysRead : Result Head4 Cause → List ℕ → List ℕ → Type 0
-StaysRead (Ok h) octets longer = Is4 h (payload_of h octets) longer × HasNoCause4 longer
-StaysRead (Err cause) octets longer = cause ≢ Truncated → 0 < length octets → IsCause4 cause longer
+abbrev pub StaysRead4 : Result Head4 Cause → List ℕ → List ℕ → Type 0
+StaysRead4 (Ok h) octets longer = Is4 h (payload_of h octets) longer × HasNoCause4 longer
+StaysRead4 (Err cause) octets longer = cause ≢ Truncated → 0 < length octets → IsCause4 cause longer
 
 -- a header that is written in front of this payload has the exact total length, and fields that no reader
 -- refuses

@@ -6,7 +6,7 @@ ghost use Rattle.octets.specs.declared.cause.Cause.{Cause as AnyCause};
 ghost use Rattle.ip4_packet.specs.declared.head.Head4.{Head4 as Header};
 ghost use Rattle.ip4_packet.specs.Options.{routed_in};
 ghost use Rattle.ip4_packet.specs.Grammar.{header_len, total_len, option_octets, more_flag, fragment_offset, payload_of, trimmed4, HasFields4, Is4};
-ghost use Rattle.ip4_packet.specs.Causes.{IsTruncated4, IsBadHeader4, HasNoCause4, IsCause4, StaysRead};
+ghost use Rattle.ip4_packet.specs.Causes.{IsTruncated4, IsBadHeader4, HasNoCause4, IsCause4, StaysRead4};
 ghost use Rattle.octets.specs.Bits.{bit_of};
 
 use crate::fault::{
@@ -116,7 +116,7 @@ impl Head4 {
         // A refusal is the least cause, and the least cause is a refusal.
         ensures refused { (cause : AnyCause) → (result ≡ Err cause) ↔ IsCause4 cause octets.now }
         // Octets that are added at the end change no answer but Truncated, and NotIp of no octet.
-        ensures longer { (more : List ℕ) → StaysRead result octets.now (octets.now ++ more) }
+        ensures longer { (more : List ℕ) → StaysRead4 result octets.now (octets.now ++ more) }
     {
         decided(octets)
     }

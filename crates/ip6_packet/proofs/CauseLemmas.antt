@@ -4,12 +4,12 @@ use Rattle.std.specs.Prelude.{IfOk, IfErr}
 use Rattle.std.proofs.lemmas.List.{get_or_append_left, length-append}
 use Rattle.std.proofs.lemmas.Bool.{cases_lt}
 use Rattle.octets.specs.declared.cause.Cause.{Cause}
-use Rattle.octets.specs.declared.cause.Cause.TheVariants.{NotIp, Truncated, BadHeader, BadHeaderSum, BadDestination, SourceRoute, UnsupportedProtocol, IcmpFragment, BadTransport, IcmpSum, IcmpKind, BadInner, NoUdpSum, NoBasicRule, WrongDestination, FragmentsFull, Spoofed, NotDefault, NoOwner, NoBinding, NoPort, TtlSpent, TooBig}
+use Rattle.octets.specs.declared.cause.Cause.TheVariants.{NotIp, Truncated, BadHeader, BadDestination}
 use Rattle.octets.specs.Cause.{number_of}
 use Rattle.octets.specs.Field.{octet, sixteen}
 use Rattle.ip6_packet.specs.declared.head.Head6.{Head6}
 use Rattle.ip6_packet.specs.Grammar.{payload_len, payload_of, chain_of, HasFields6, Is6}
-use Rattle.ip6_packet.specs.Causes.{IsTruncated6, HasCause6, HasNoCause6, IsCause6, StaysRead}
+use Rattle.ip6_packet.specs.Causes.{IsTruncated6, HasCause6, HasNoCause6, IsCause6, StaysRead6}
 use Rattle.octets.proofs.Parts.{number-append, part-append}
 
 -- octets that have none of the four causes below a number have no cause below it
@@ -22,32 +22,6 @@ spared octets n a b c e Truncated h has = b h has
 spared octets n a b c e BadHeader h has = c h has
 spared octets n a b c e BadDestination h has = e h has
 spared octets n a b c e _ h has = has
-
--- there is no number above that of the last
-pub below : (c : Cause) → number_of c < 24
-below NotIp = omega arith
-below Truncated = omega arith
-below BadHeader = omega arith
-below BadHeaderSum = omega arith
-below BadDestination = omega arith
-below SourceRoute = omega arith
-below UnsupportedProtocol = omega arith
-below IcmpFragment = omega arith
-below BadTransport = omega arith
-below IcmpSum = omega arith
-below IcmpKind = omega arith
-below BadInner = omega arith
-below NoUdpSum = omega arith
-below NoBasicRule = omega arith
-below WrongDestination = omega arith
-below FragmentsFull = omega arith
-below Spoofed = omega arith
-below NotDefault = omega arith
-below NoOwner = omega arith
-below NoBinding = omega arith
-below NoPort = omega arith
-below TtlSpent = omega arith
-below TooBig = omega arith
 
 -- what isn't refused as too few
 pub record IsLong (octets : List ℕ) : Type 0 where
@@ -147,7 +121,7 @@ refused_longer _ octets more is ne some = absurd is.0
 
 -- what was read stays read
 pub stays : (read : Result Head6 Cause) (octets more : List ℕ) → IfOk read (λ h. Is6 h (payload_of h octets) octets × HasNoCause6 octets)
-    → IfErr read (λ c. IsCause6 c octets) → StaysRead read octets (octets ++ more)
+    → IfErr read (λ c. IsCause6 c octets) → StaysRead6 read octets (octets ++ more)
 stays (Ok h) octets more found refused =
     let is = long octets (found.1 Truncated) in
     (longer_is h (payload_of h octets) octets more is found.0, λ c has. found.1 c (longer_has octets more is c has))

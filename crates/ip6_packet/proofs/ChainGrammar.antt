@@ -129,7 +129,7 @@ in-front place number header others chain c sized is upper start frag left r = r
   last = r.last;
   rest = r.rest;
   are = (sized, (others, refl, is, r.are));
-  upper_is = r.upper_is;
+  no_more = r.no_more;
   ends = ends-as (place + length header + length (concat r.headers)) (place + length (header ++ concat r.headers)) r.last r.rest c chain (omega (arith, length-append header (concat r.headers))) upper start frag r.ends;
   left = left ∙ ap (λ (o : Option ℕ). option_or (route_at number (place + 3) (get_or header 3 0)) o) r.left;
 }
@@ -172,7 +172,7 @@ last-read place number octets chain upper e =
       last = number;
       rest = octets;
       are = (refl, refl);
-      upper_is = λ sized. false≢true (sym upper ∙ sized);
+      no_more = λ sized. false≢true (sym upper ∙ sized);
       ends = ends-as place (place + 0) number octets chain chain (sym (add-zero place)) refl refl refl end.ends;
       left = end.left;
     }
@@ -241,7 +241,7 @@ again (header ∷ headers) place number octets last rest chain are upper ends le
 
 pub chain-exactly : (place number : ℕ) (octets : List ℕ) (chain : Chain) → (chain_in place number 0 octets ≡ Some chain → IsChain place number octets chain) × (IsChain place number octets chain → chain_in place number 0 octets ≡ Some chain)
 chain-exactly place number octets chain =
-    (read place number octets chain, λ is. again is.headers place number octets is.last is.rest chain is.are (not_true (is_sized is.last) is.upper_is) is.ends is.left)
+    (read place number octets chain, λ is. again is.headers place number octets is.last is.rest chain is.are (not_true (is_sized is.last) is.no_more) is.ends is.left)
 
 nothing : (o : Option Chain) → ((chain : Chain) → ¬ (o ≡ Some chain)) → o ≡ None
 nothing None never = refl

@@ -12,7 +12,8 @@ use Rattle.ip6_packet.specs.Grammar.{payload_len, HasFields6, Is6}
 use Rattle.ip6_packet.specs.Causes.{IsNotIp6, IsTruncated6, IsBadHeader6, IsWrongFrag6, IsNoDestination6, HasNoCause6, IsSound6}
 use Rattle.ip6_packet.proofs.ChainLemmas.{tail}
 use Rattle.octets.proofs.Parts.{number_back}
-use Rattle.ip6_packet.proofs.CauseLemmas.{spared, below}
+use Rattle.octets.proofs.CauseNumbers.{below}
+use Rattle.ip6_packet.proofs.CauseLemmas.{spared}
 
 -- a packet whose fields and destination are sound has no cause
 sound : (h : Head6) (payload octets : List ℕ) → Is6 h payload octets → 40 ≤ length octets

@@ -57,9 +57,9 @@ IsCause6 cause octets = IsLeast (λ cause. HasCause6 cause octets) cause
 
 -- What was read of the octets holds of a longer list of octets too. Only octets that were too few, or
 -- none, may be judged otherwise.
-abbrev pub StaysRead : Result Head6 Cause → List ℕ → List ℕ → Type 0
-StaysRead (Ok h) octets longer = Is6 h (payload_of h octets) longer × HasNoCause6 longer
-StaysRead (Err cause) octets longer = cause ≢ Truncated → 0 < length octets → IsCause6 cause longer
+abbrev pub StaysRead6 : Result Head6 Cause → List ℕ → List ℕ → Type 0
+StaysRead6 (Ok h) octets longer = Is6 h (payload_of h octets) longer × HasNoCause6 longer
+StaysRead6 (Err cause) octets longer = cause ≢ Truncated → 0 < length octets → IsCause6 cause longer
 
 -- headers that are written in front of this payload have its exact length, and fields that no reader refuses
 abbrev pub IsSound6 : Head6 → List ℕ → Type 0

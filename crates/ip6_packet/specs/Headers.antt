@@ -53,6 +53,6 @@ pub record IsChain (place number : ℕ) (octets : List ℕ) (chain : Chain) : Ty
   pub last : ℕ
   pub rest : List ℕ
   pub are : AreHeaders number octets headers last rest
-  pub upper_is : ¬ IsTrue (is_sized last)
+  pub no_more : ¬ IsTrue (is_sized last)
   pub ends : EndsUpper (place + length (concat headers)) last chain ⊎ EndsInFragment (place + length (concat headers)) last rest chain
   pub left : chain.left ≡ first_left place number headers

@@ -5,7 +5,7 @@ ghost use Rattle.octets.specs.Field.{octet, sixteen};
 ghost use Rattle.octets.specs.declared.cause.Cause.{Cause as AnyCause};
 ghost use Rattle.ip6_packet.specs.declared.head.Head6.{Head6 as Header};
 ghost use Rattle.ip6_packet.specs.Grammar.{payload_len, chain_of, payload_of, trimmed6, HasFields6, Is6};
-ghost use Rattle.ip6_packet.specs.Causes.{IsTruncated6, IsBadHeader6, HasNoCause6, IsCause6, StaysRead};
+ghost use Rattle.ip6_packet.specs.Causes.{IsTruncated6, IsBadHeader6, HasNoCause6, IsCause6, StaysRead6};
 
 use crate::chain::{Chain, chain_of};
 use crate::fault::{is_no_destination, is_not_ip, is_truncated, is_wrong_frag, payload_len};
@@ -88,7 +88,7 @@ impl Head6 {
         // A refusal is the least cause, and the least cause is a refusal.
         ensures refused { (cause : AnyCause) → (result ≡ Err cause) ↔ IsCause6 cause octets.now }
         // Octets that are added at the end change no answer but Truncated, and NotIp of no octet.
-        ensures longer { (more : List ℕ) → StaysRead result octets.now (octets.now ++ more) }
+        ensures longer { (more : List ℕ) → StaysRead6 result octets.now (octets.now ++ more) }
     {
         decided(octets)
     }

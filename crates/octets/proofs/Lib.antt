@@ -1,3 +1,4 @@
+pub mod CauseNumbers
 pub mod Cuts
 pub mod Gaps
 pub mod GroupNumbers

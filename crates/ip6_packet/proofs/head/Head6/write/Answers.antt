@@ -1,5 +1,5 @@
-use Rattle.std.proofs.Common.{◌≡◌, length, rules}
-use Rattle.ip6_packet.specs.Written.{written6, IsWritten6}
+use Rattle.std.proofs.Common.{rules}
+use Rattle.ip6_packet.specs.Written.{IsWritten6}
 use Rattle.ip6_packet.proofs.WrittenLemmas.{written_again}
 use Rattle.ip6_packet.proofs.head.Head6.write.Goals as goal
 
