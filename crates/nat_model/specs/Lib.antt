@@ -8,3 +8,5 @@ pub mod Remote
 pub mod Machine
 pub mod Sound
 pub mod Stripe
+pub mod History
+pub mod Waiting
