@@ -3,10 +3,10 @@ ghost use Rattle.octets.specs.declared.proto.Proto.{Proto as AnyProto};
 ghost use Rattle.octets.specs.declared.cause.Cause.TheVariants.{BadInner};
 ghost use Rattle.octets.specs.declared.cause.Fault.TheVariants.{Drop as Dropped, NoMemory as WantsMemory};
 ghost use Rattle.icmp_messages.specs.declared.inner6.Inner6.{Inner6 as Inner};
-ghost use Rattle.icmp_messages.specs.Inner.{IsEcho6, IsCarried6, IsFirst6, IsInner6, IsBadInner6};
+ghost use Rattle.icmp_messages.specs.Inner.{IsEcho6, IsCarried6, IsInner6, IsBadInner6};
 
 use crate::layout::{CODE_AT, FRONT_LEN, KIND_AT};
-use ip6_packet::{Frag6, Head6};
+use ip6_packet::Head6;
 use l4_headers::{Ports, read_ports};
 use octets::icmp_type::{ECHO_REPLY6, ECHO_REQUEST6};
 use octets::{Bytes, Cause, Fault, Proto};
@@ -46,16 +46,6 @@ fn carried(number: u8, payload: &[u8]) -> Option<Proto>
     }
 }
 
-/// No Fragment Header, or that of a first fragment.
-fn is_first(frag: Option<Frag6>) -> bool
-    ensures { IsTrue result ↔ IsFirst6 frag }
-{
-    match frag {
-        None => true,
-        Some(frag) => frag.offset == 0,
-    }
-}
-
 /// The packet that an ICMPv6 error embeds (RFC 4443, section 2.4), at the front of these octets. Octets
 /// past its declared end are cut off first.
 ///
@@ -74,7 +64,7 @@ pub fn read_inner6(alloc: Global, octets: &[u8]) -> Result<Inner6, Fault>
         return Err(Fault::Drop(Cause::BadInner));
     };
     let payload = head.payload(octets);
-    if payload.len() < FRONT_LEN || !is_first(head.frag) {
+    if payload.len() < FRONT_LEN || head.fragment_offset() != 0 {
         return Err(Fault::Drop(Cause::BadInner));
     }
     let Some(proto) = carried(head.upper, payload) else {

@@ -1,6 +1,7 @@
 pub mod Causes
 pub mod Chain
 pub mod Embedded
+pub mod Fragment
 pub mod Grammar
 pub mod Headers
 pub mod Written

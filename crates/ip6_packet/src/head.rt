@@ -1,5 +1,6 @@
 ghost use Rattle.std.specs.Prelude.{◌≡◌, ◌^◌, ◌<◌, ◌≤◌, ◌++◌, length, IfOk, OnOk, None};
 ghost use Rattle.ip6_packet.specs.Written.{written6, fixed_header, fragment_header, fragment_part, IsUpper, IsPlaced, IsInRange, FitsFrag, IsWritten6};
+ghost use Rattle.ip6_packet.specs.Fragment.{fragment_offset, more_fragments};
 ghost use Rattle.ip6_packet.specs.Grammar.{Is6};
 ghost use Rattle.ip6_packet.specs.Causes.{HasNoCause6, IsSound6};
 
@@ -102,6 +103,26 @@ impl Head6 {
             octets.extend(&frag.header(self.upper))?;
         }
         Ok(())
+    }
+
+    /// Where the payload stands in the whole one, in units of 8 octets: above 0 exactly in a later fragment.
+    pub fn fragment_offset(&self) -> u16
+        ensures { result ≡ fragment_offset self.now.frag }
+    {
+        match self.frag {
+            None => 0,
+            Some(frag) => frag.offset,
+        }
+    }
+
+    /// More fragments follow.
+    pub fn more_fragments(&self) -> bool
+        ensures { result ≡ more_fragments self.now.frag }
+    {
+        match self.frag {
+            None => false,
+            Some(frag) => frag.more,
+        }
     }
 
     /// The packet with these fields and this payload, in the one form that is written (RFC 8200,

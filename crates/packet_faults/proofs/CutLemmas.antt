@@ -13,9 +13,10 @@ use Rattle.ip6_packet.specs.Grammar.{payload_of}
 use Rattle.ip6_packet.specs.Causes.{IsWrongFrag6}
 use Rattle.ip6_packet.specs.Written.{IsWritten6, IsUpper, IsInRange}
 use Rattle.ip6_packet.specs.Embedded.{HasHeaders6}
+use Rattle.ip6_packet.specs.Fragment.{fragment_offset, more_fragments}
 use Rattle.ip6_packet.proofs.WrittenLemmas.{written_is6}
 use Rattle.ip6_packet.proofs.EmbeddedLemmas.{same_headers6, headers_of6}
-use Rattle.packet_faults.specs.Cut.{own_offset, own_more, Cut, piece_payload, piece_frag, piece_head, piece, AreCut, joined, GiveAgain, EachFits, IsCuttable}
+use Rattle.packet_faults.specs.Cut.{Cut, piece_payload, piece_frag, piece_head, piece, AreCut, joined, GiveAgain, EachFits, IsCuttable}
 
 -- what is read of a packet that may be cut is what was written
 pub record Found (h g : Head6) (payload packet : List ℕ) : Type 0 where
@@ -29,7 +30,7 @@ found h g payload packet may has =
     record { head = e; payload_is = is.payload_is ∙ ap (λ (x : Head6). payload_of x packet) e }
 
 -- the whole payload that it is a part of has room for it
-pub room : (frag : Option Frag6) (len : ℕ) → (IsWrongFrag6 frag len → ⊥) → len < 65536 → own_offset frag * 8 + len ≤ 65535
+pub room : (frag : Option Frag6) (len : ℕ) → (IsWrongFrag6 frag len → ⊥) → len < 65536 → fragment_offset frag * 8 + len ≤ 65535
 room None len agreed fits = omega arith
 room (Some frag) len agreed fits = within (cases_lt 65535 (frag.offset * 8 + len))
   where
@@ -106,7 +107,7 @@ length-joined cut n = ap length (joined_is cut n) ∙ length-take (n * cut.step)
 pub record MayCut (cut : Cut) : Type 0 where
   pub in_range : IsInRange cut.head
   pub upper : IsUpper cut.head.upper
-  pub room : own_offset cut.head.frag * 8 + length cut.payload ≤ 65535
+  pub room : fragment_offset cut.head.frag * 8 + length cut.payload ≤ 65535
   pub units : ℕ
   pub step_is : cut.step ≡ 8 * units
   pub step_fits : cut.step ≤ 65527
@@ -144,7 +145,7 @@ give_again cut n may reached = record {
   again = joined_is cut n ∙ take_all (n * cut.step) cut.payload reached;
 }
   where
-    begins : (k : ℕ) → k * cut.step < length cut.payload → (piece_frag cut (k * cut.step)).offset * 8 ≡ own_offset cut.head.frag * 8 + length (joined cut k)
+    begins : (k : ℕ) → k * cut.step < length cut.payload → (piece_frag cut (k * cut.step)).offset * 8 ≡ fragment_offset cut.head.frag * 8 + length (joined cut k)
     begins k inside =
         let whole : k * cut.step ≡ 8 * (k * may.units) = rw may.step_is (omega arith) in
         omega (arith, length-joined cut k)
@@ -154,7 +155,7 @@ give_again cut n may reached = record {
         let next : suc k * cut.step ≡ k * cut.step + cut.step = omega arith in
         rw (lt-ltb (k * cut.step + cut.step) (length cut.payload) (omega (arith, length-joined cut (suc k)))) refl
 
-    more_at_end : (k : ℕ) → length (joined cut (suc k)) ≡ length cut.payload → (piece_frag cut (k * cut.step)).more ≡ own_more cut.head.frag
+    more_at_end : (k : ℕ) → length (joined cut (suc k)) ≡ length cut.payload → (piece_frag cut (k * cut.step)).more ≡ more_fragments cut.head.frag
     more_at_end k ended =
         let next : suc k * cut.step ≡ k * cut.step + cut.step = omega arith in
         rw (le-ltb (k * cut.step + cut.step) (length cut.payload) (omega (arith, length-joined cut (suc k)))) refl

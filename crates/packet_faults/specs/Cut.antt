@@ -5,18 +5,10 @@ use Rattle.octets.specs.Field.{part}
 use Rattle.octets.specs.declared.parcel.Parcel.{Parcel}
 use Rattle.ip6_packet.specs.declared.head.Head6.{Head6}
 use Rattle.ip6_packet.specs.declared.head.Frag6.{Frag6}
+use Rattle.ip6_packet.specs.Fragment.{fragment_offset, more_fragments}
 use Rattle.ip6_packet.specs.Grammar.{Is6}
 use Rattle.ip6_packet.specs.Causes.{IsWrongFrag6}
 use Rattle.ip6_packet.specs.Written.{written6, IsWritten6}
-
--- where the packet's payload stands in the whole one, in units of 8 octets, and whether more follows it
-abbrev pub own_offset : Option Frag6 → ℕ
-own_offset None = 0
-own_offset (Some frag) = frag.offset
-
-abbrev pub own_more : Option Frag6 → Bool
-own_more None = false
-own_more (Some frag) = frag.more
 
 -- the payload of a piece, but for the last: the most whole units of 8 octets that fit behind a header of 40 and a
 -- Fragment Header of 8
@@ -41,8 +33,8 @@ piece_payload cut at = part cut.payload at cut.step
 
 abbrev pub piece_frag : Cut → ℕ → Frag6
 piece_frag cut at = record {
-  offset = own_offset cut.head.frag + at / 8;
-  more = nat_lt (at + cut.step) (length cut.payload) || own_more cut.head.frag;
+  offset = fragment_offset cut.head.frag + at / 8;
+  more = nat_lt (at + cut.step) (length cut.payload) || more_fragments cut.head.frag;
   id = cut.id;
 }
 
@@ -79,11 +71,11 @@ pub record GiveAgain (cut : Cut) (n : ℕ) : Type 0 where
   pub reads : (k : ℕ) → k * cut.step < length cut.payload
       → Is6 (piece_head cut (k * cut.step)) (piece_payload cut (k * cut.step)) (piece cut (k * cut.step)).bytes
   pub begins : (k : ℕ) → k * cut.step < length cut.payload
-      → (piece_frag cut (k * cut.step)).offset * 8 ≡ own_offset cut.head.frag * 8 + length (joined cut k)
+      → (piece_frag cut (k * cut.step)).offset * 8 ≡ fragment_offset cut.head.frag * 8 + length (joined cut k)
   pub more_inside : (k : ℕ) → length (joined cut (suc k)) < length cut.payload
       → (piece_frag cut (k * cut.step)).more ≡ true
   pub more_at_end : (k : ℕ) → length (joined cut (suc k)) ≡ length cut.payload
-      → (piece_frag cut (k * cut.step)).more ≡ own_more cut.head.frag
+      → (piece_frag cut (k * cut.step)).more ≡ more_fragments cut.head.frag
   pub again : joined cut n ≡ cut.payload
 
 -- no piece has more octets than this

@@ -1,6 +1,6 @@
 -- The ICMP errors that a node makes of a packet that it can't pass on (RFC 792; RFC 1122, section 3.2.2; RFC 4443,
 -- section 2.4).
-use Rattle.std.specs.Prelude.{◌≡◌, ◌≢◌, ℕ, ◌+◌, ◌-◌, ◌<◌, ◌⊎◌, false, List, length, take, Option, Some, None}
+use Rattle.std.specs.Prelude.{◌≡◌, ◌≢◌, ℕ, ◌+◌, ◌-◌, ◌<◌, ◌⊎◌, false, List, length, take, None}
 use Rattle.octets.specs.Field.{octet}
 use Rattle.octets.specs.declared.address.Addr4.{Addr4}
 use Rattle.octets.specs.declared.address.Addr6.{Addr6}
@@ -9,7 +9,7 @@ use Rattle.ip4_packet.specs.Grammar.{trimmed4}
 use Rattle.ip4_packet.specs.Causes.{IsNoDestination4}
 use Rattle.ip4_packet.specs.Written.{written4}
 use Rattle.ip6_packet.specs.declared.head.Head6.{Head6}
-use Rattle.ip6_packet.specs.declared.head.Frag6.{Frag6}
+use Rattle.ip6_packet.specs.Fragment.{fragment_offset}
 use Rattle.ip6_packet.specs.Grammar.{trimmed6}
 use Rattle.ip6_packet.specs.Causes.{IsNoDestination6}
 use Rattle.ip6_packet.specs.Written.{written6}
@@ -30,18 +30,13 @@ IsError4 protocol payload =
 abbrev pub IsError6 : ℕ → List ℕ → Type 0
 IsError6 protocol payload = (protocol ≡ 58) × (0 < length payload) × (octet payload 0 < 128)
 
--- a Fragment Header that isn't of the first fragment
-abbrev pub IsLater6 : Option Frag6 → Type 0
-IsLater6 None = ⊥
-IsLater6 (Some frag) = frag.offset ≢ 0
-
 -- No error answers a packet with this header and payload: it is an ICMP error itself, or a later fragment, or its
 -- source is a group, the broadcast address or the unspecified one.
 abbrev pub IsUnanswered4 : Head4 → List ℕ → Type 0
 IsUnanswered4 h payload = IsError4 h.proto payload ⊎ ((h.offset ≢ 0) ⊎ IsNoDestination4 h.src.0)
 
 abbrev pub IsUnanswered6 : Head6 → List ℕ → Type 0
-IsUnanswered6 h payload = IsError6 h.upper payload ⊎ (IsLater6 h.frag ⊎ IsNoDestination6 h.src.0)
+IsUnanswered6 h payload = IsError6 h.upper payload ⊎ ((fragment_offset h.frag ≢ 0) ⊎ IsNoDestination6 h.src.0)
 
 -- what an error says: its type, its code, and the four octets behind its sum
 pub record Said : Type 0 where

@@ -2,8 +2,9 @@
 
 ghost use Rattle.std.specs.Prelude.{◌≡◌, ◌+◌, ◌*◌, ◌<◌, ◌≤◌, ◌%◌, List, ℕ, length, IfOk};
 ghost use Rattle.ip6_packet.specs.declared.head.Head6.{Head6 as Header};
+ghost use Rattle.ip6_packet.specs.Fragment.{fragment_offset, more_fragments};
 ghost use Rattle.ip6_packet.specs.Written.{written6, IsUpper};
-ghost use Rattle.packet_faults.specs.Cut.{own_offset, own_more, cut_for, step_of, piece_head, piece_payload, piece, AreCut, GiveAgain, EachFits, IsCuttable};
+ghost use Rattle.packet_faults.specs.Cut.{cut_for, step_of, piece_head, piece_payload, piece, AreCut, GiveAgain, EachFits, IsCuttable};
 
 use ip6_packet::{Frag6, Head6};
 use octets::{Bytes, NoMemory, Parcel, Parcels};
@@ -13,26 +14,6 @@ use std::alloc::Global;
 const HEADERS_LEN: u16 = 48;
 /// The unit of a fragment's offset, in octets.
 const UNIT: u16 = 8;
-
-/// Where the packet's payload stands in the whole one, in units of 8 octets.
-fn own_offset(head: &Head6) -> u16
-    ensures { result ≡ own_offset head.now.frag }
-{
-    match head.frag {
-        None => 0,
-        Some(frag) => frag.offset,
-    }
-}
-
-/// More fragments follow the packet.
-fn own_more(head: &Head6) -> bool
-    ensures { result ≡ own_more head.now.frag }
-{
-    match head.frag {
-        None => false,
-        Some(frag) => frag.more,
-    }
-}
 
 /// The piece whose payload begins at this place of the packet's.
 fn piece(
@@ -45,7 +26,7 @@ fn piece(
 ) -> Result<Bytes, NoMemory>
     requires upper { IsUpper head.now.upper }
     requires within { at < length payload.now }
-    requires room { own_offset head.now.frag * 8 + length payload.now ≤ 65535 }
+    requires room { fragment_offset head.now.frag * 8 + length payload.now ≤ 65535 }
     requires step { (0 < step) × (step ≤ 65527) }
     ensures { IfOk result (λ octets. octets ≡ (piece (record { head = head.now; payload = payload.now; step = step; id = id }) at).bytes) }
 {
@@ -55,8 +36,8 @@ fn piece(
         start: u32::from(HEADERS_LEN),
         length: here.len() as u16,
         frag: Some(Frag6 {
-            offset: own_offset(head) + (at / usize::from(UNIT)) as u16,
-            more: after < payload.len() || own_more(head),
+            offset: head.fragment_offset() + (at / usize::from(UNIT)) as u16,
+            more: after < payload.len() || head.more_fragments(),
             id,
         }),
         left: None,

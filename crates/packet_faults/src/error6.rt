@@ -4,10 +4,10 @@ ghost use Rattle.std.specs.Prelude.{◌≡◌, ◌≤◌, ◌↔◌, IsTrue, Lis
 ghost use Rattle.ip6_packet.specs.declared.head.Head6.{Head6 as Header};
 ghost use Rattle.ip6_packet.specs.Grammar.{Is6};
 ghost use Rattle.ip6_packet.specs.Causes.{HasNoCause6};
-ghost use Rattle.packet_faults.specs.Error.{IsError6, IsLater6, IsUnanswered6, said, embedded6, error_head6, error_message6, error6};
+ghost use Rattle.packet_faults.specs.Error.{IsError6, IsUnanswered6, said, embedded6, error_head6, error_message6, error6};
 
 use icmp_messages::Icmp6;
-use ip6_packet::{Frag6, Head6, is_no_destination};
+use ip6_packet::{Head6, is_no_destination};
 use octets::icmp_type::LEAST_INFORMATIONAL6;
 use octets::protocol::ICMP6;
 use octets::{Addr6, Bytes, NoMemory};
@@ -29,22 +29,12 @@ fn is_error(proto: u8, payload: &[u8]) -> bool
     proto == ICMP6 && !payload.is_empty() && payload[0] < LEAST_INFORMATIONAL6
 }
 
-/// A Fragment Header that isn't of the first fragment.
-fn is_later(frag: Option<Frag6>) -> bool
-    ensures { IsTrue result ↔ IsLater6 frag }
-{
-    match frag {
-        None => false,
-        Some(frag) => frag.offset != 0,
-    }
-}
-
 /// No error answers the packet: an ICMP error, a later fragment, or a source that is a group or the
 /// unspecified address.
 fn is_unanswered(head: &Head6, payload: &[u8]) -> bool
     ensures { IsTrue result ↔ IsUnanswered6 head.now payload.now }
 {
-    is_error(head.upper, payload) || is_later(head.frag) || is_no_destination(head.src)
+    is_error(head.upper, payload) || head.fragment_offset() != 0 || is_no_destination(head.src)
 }
 
 /// What an error embeds of the packet with these headers.

@@ -8,7 +8,7 @@ use Rattle.ip6_packet.specs.declared.head.Head6.{Head6}
 use Rattle.ip6_packet.specs.declared.head.Frag6.{Frag6}
 use Rattle.ip6_packet.specs.Grammar.{payload_len, payload_of, Is6}
 use Rattle.ip6_packet.specs.Causes.{IsWrongFrag6, HasNoCause6}
-use Rattle.xlat64.specs.Head.{fragment_offset}
+use Rattle.ip6_packet.specs.Fragment.{fragment_offset}
 use Rattle.xlat64.specs.Whole.{Parts6, HasNoCause64}
 
 -- the offset of a fragment that ends within the greatest payload

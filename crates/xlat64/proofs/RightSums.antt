@@ -8,7 +8,7 @@ use Rattle.l4_headers.specs.declared.ports.Ports.{Ports}
 use Rattle.l4_headers.specs.Transport.{with_l4}
 use Rattle.l4_headers.specs.PseudoHeader.{pseudo_header4, pseudo_header6, IsRightOver}
 use Rattle.l4_headers.proofs.RightSums.{header_stands, words-pseudo4, words-pseudo6, right_readdressed}
-use Rattle.xlat64.specs.Head.{more_fragments}
+use Rattle.ip6_packet.specs.Fragment.{more_fragments}
 use Rattle.xlat64.specs.Whole.{Parts6, offset_of, IsCarried6, addresses_before, addresses_after, sum64, payload64, ArePorts}
 
 -- no protocol that is carried has the number 0

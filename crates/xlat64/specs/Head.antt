@@ -5,6 +5,7 @@ use Rattle.octets.specs.declared.address.Addr4.{Addr4}
 use Rattle.ip4_packet.specs.declared.head.Head4.{Head4}
 use Rattle.ip6_packet.specs.declared.head.Head6.{Head6}
 use Rattle.ip6_packet.specs.declared.head.Frag6.{Frag6}
+use Rattle.ip6_packet.specs.Fragment.{more_fragments, fragment_offset}
 
 -- 20 octets of header and the upper payload, at most what the field holds. Only an embedded packet declares more.
 abbrev pub total_of : Head6 → ℕ
@@ -24,14 +25,6 @@ identification None id = id
 abbrev pub dont_fragment : Option Frag6 → ℕ → Bool
 dont_fragment (Some frag) total = false
 dont_fragment None total = not (nat_le total 1260)
-
-abbrev pub more_fragments : Option Frag6 → Bool
-more_fragments (Some frag) = frag.more
-more_fragments None = false
-
-abbrev pub fragment_offset : Option Frag6 → ℕ
-fragment_offset (Some frag) = frag.offset
-fragment_offset None = 0
 
 abbrev pub translated : Head6 → Addr4 → Addr4 → ℕ → Head4
 translated old src dst id = record {

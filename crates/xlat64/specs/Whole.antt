@@ -14,7 +14,8 @@ use Rattle.ip6_packet.specs.Causes.{HasNoCause6}
 use Rattle.l4_headers.specs.declared.ports.Ports.{Ports}
 use Rattle.l4_headers.specs.Transport.{IsBadTransport, l4_of, with_l4}
 use Rattle.l4_headers.specs.Readdressed.{readdressed_sum}
-use Rattle.xlat64.specs.Head.{more_fragments, fragment_offset, translated}
+use Rattle.ip6_packet.specs.Fragment.{more_fragments, fragment_offset}
+use Rattle.xlat64.specs.Head.{translated}
 
 -- a packet as it was read: its headers, its transport protocol, and its payload
 pub record Parts6 : Type 0 where

@@ -4,7 +4,7 @@ ghost use Rattle.std.specs.Prelude.{◌≡◌, ◌≢◌, ◌↔◌, not, false,
 ghost use Rattle.octets.specs.Field.{word};
 ghost use Rattle.octets.specs.declared.proto.Proto.TheVariants.{Udp, Icmp};
 ghost use Rattle.l4_headers.specs.Transport.{IsBadTransport};
-ghost use Rattle.xlat64.specs.Head.{more_fragments, fragment_offset};
+ghost use Rattle.ip6_packet.specs.Fragment.{more_fragments, fragment_offset};
 
 use super::*;
 use ip6_packet::{Frag6, Head6};

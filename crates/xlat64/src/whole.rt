@@ -1,6 +1,6 @@
 ghost use Rattle.std.specs.Prelude.{◌≡◌, ◌<◌, ◌≤◌, not, IfOk, length};
 ghost use Rattle.l4_headers.specs.Transport.{IsBadTransport};
-ghost use Rattle.xlat64.specs.Head.{more_fragments, fragment_offset};
+ghost use Rattle.ip6_packet.specs.Fragment.{more_fragments, fragment_offset};
 ghost use Rattle.xlat64.specs.Whole.{Parts6, IsCarried6, HasNoCause64, sum64, packet64, HasPorts, IsAccepted64};
 
 use crate::head::head64;

@@ -1,6 +1,6 @@
 use Rattle.std.proofs.Common.{◌≡◌, ◌≤◌, length, arith, ap, rules}
+use Rattle.ip6_packet.specs.Fragment.{fragment_offset}
 use Rattle.ip6_packet.specs.Grammar.{payload_of}
-use Rattle.icmp_messages.specs.Inner.{IsFirst6}
 use Rattle.icmp_messages.proofs.InnerLemmas.{not_bad6}
 use Rattle.icmp_messages.proofs.inner6.read_inner6.Goals as goal
 
@@ -9,7 +9,7 @@ returns-in_err-extend-clause-refused c =
     let octets = c.args.octets.now in
     let e : c.payload-payload.result.now ≡ payload_of c.in-Some.head octets = c.payload-payload.ensures in
     let stands : 8 ≤ length (payload_of c.in-Some.head octets) = omega (arith, ap length e) in
-    let first : IsFirst6 c.in-Some.head.frag = search rules in
+    let first : fragment_offset c.in-Some.head.frag ≡ 0 = search rules in
     (λ is. let f = rw is at c.from_residual.ensures in cc, λ bad. absurd (not_bad6 c.in-Some.head c.in-Some-carried.proto octets c.in-Some.ensures.headers stands first (rw e at c.in-Some-carried.ensures.some) bad))
 
 pub returns-clause-refused : goal.returns-clause-refused
@@ -17,5 +17,5 @@ returns-clause-refused c =
     let octets = c.args.octets.now in
     let e : c.payload-payload.result.now ≡ payload_of c.in-Some.head octets = c.payload-payload.ensures in
     let stands : 8 ≤ length (payload_of c.in-Some.head octets) = omega (arith, ap length e) in
-    let first : IsFirst6 c.in-Some.head.frag = search rules in
+    let first : fragment_offset c.in-Some.head.frag ≡ 0 = search rules in
     (λ is. cc, λ bad. absurd (not_bad6 c.in-Some.head c.in-Some-carried.proto octets c.in-Some.ensures.headers stands first (rw e at c.in-Some-carried.ensures.some) bad))

@@ -1,9 +1,10 @@
 use Rattle.std.proofs.Common.{◌≡◌, ◌+◌, ◌-◌, ◌*◌, ◌/◌, ◌<◌, ◌≤◌, ℕ, List, [], ◌∷◌, ◌++◌, length, sym, ap, ◌∙◌, arith, length-append}
 use Rattle.octets.specs.declared.parcel.Parcel.{Parcel}
 use Rattle.ip6_packet.specs.declared.head.Head6.{Head6}
+use Rattle.ip6_packet.specs.Fragment.{fragment_offset, more_fragments}
 use Rattle.ip6_packet.proofs.WrittenLemmas.{written_is6}
 use Rattle.ip6_packet.proofs.EmbeddedLemmas.{lacks_none6, headers_of6}
-use Rattle.packet_faults.specs.Cut.{Cut, own_offset, piece}
+use Rattle.packet_faults.specs.Cut.{Cut, piece}
 use Rattle.packet_faults.proofs.CutLemmas.{found, room, none_yet, one_more, all_cut, MayCut, give_again, each_fits}
 use Rattle.packet_faults.proofs.cut.cut6.Goals as goal
 
@@ -24,9 +25,9 @@ piece-requires-clause-room c =
     let h = c.requires.written.0 in
     let may = c.requires.written.2 in
     let is = found h c.in-Some.head c.requires.written.1 c.args.packet.now may c.in-Some.ensures.headers in
-    let fits : own_offset h.frag * 8 + h.length ≤ 65535 = room h.frag h.length may.agreed may.form.in_range.length_fits in
+    let fits : fragment_offset h.frag * 8 + h.length ≤ 65535 = room h.frag h.length may.agreed may.form.in_range.length_fits in
     let len : h.length ≡ length c.payload-payload.result.now = may.form.exact ∙ ap length (is.payload_is ∙ sym c.payload-payload.ensures) in
-    let offset : own_offset h.frag ≡ own_offset c.in-Some.head.frag = ap (λ (x : Head6). own_offset x.frag) is.head in
+    let offset : fragment_offset h.frag ≡ fragment_offset c.in-Some.head.frag = ap (λ (x : Head6). fragment_offset x.frag) is.head in
     omega arith
 
 pub loop-at-init : goal.loop-at-init
@@ -62,7 +63,7 @@ returns-clause-again c = λ h payload may.
     let is = found h c.in-Some.head payload c.args.packet.now may c.in-Some.ensures.headers in
     let read : payload ≡ c.payload-payload.result.now = is.payload_is ∙ sym c.payload-payload.ensures in
     let reached : length c.payload-payload.result.now ≤ length c.loop-at.pieces * ((c.args.mtu6 - 48) / 8 * 8) = rw c.loop-at.invariant.counted at c.loop-at-test.false in
-    let fits : own_offset h.frag * 8 + h.length ≤ 65535 = room h.frag h.length may.agreed may.form.in_range.length_fits in
+    let fits : fragment_offset h.frag * 8 + h.length ≤ 65535 = room h.frag h.length may.agreed may.form.in_range.length_fits in
     let cut : Cut = record { head = h; payload = payload; step = (c.args.mtu6 - 48) / 8 * 8; id = c.args.id } in
     let may_cut : MayCut cut = record {
       in_range = may.form.in_range;
