@@ -1,6 +1,6 @@
 -- An IPv6 packet cut into fragments (RFC 8200, section 4.5). A packet that is a fragment itself is cut into smaller
 -- ones of the same whole payload.
-use Rattle.std.specs.Prelude.{◌≡◌, ℕ, zero, suc, ◌+◌, ◌*◌, ◌-◌, ◌/◌, ◌<◌, ◌≤◌, Bool, true, false, ◌||◌, nat_lt, List, [], ◌++◌, length, slice_get, Option, Some, None}
+use Rattle.std.specs.Prelude.{◌≡◌, ℕ, zero, suc, ◌+◌, ◌*◌, ◌-◌, ◌/◌, ◌<◌, ◌≤◌, true, ◌||◌, nat_lt, List, [], ◌++◌, length, slice_get, Some, None}
 use Rattle.octets.specs.Field.{part}
 use Rattle.octets.specs.declared.parcel.Parcel.{Parcel}
 use Rattle.ip6_packet.specs.declared.head.Head6.{Head6}

@@ -1,7 +1,7 @@
 use Rattle.std.proofs.Common.{◌≡◌, ◌+◌, ◌-◌, ◌*◌, ◌/◌, ◌<◌, ◌≤◌, ℕ, List, [], ◌∷◌, ◌++◌, length, sym, ap, ◌∙◌, arith, length-append}
 use Rattle.octets.specs.declared.parcel.Parcel.{Parcel}
 use Rattle.ip6_packet.specs.declared.head.Head6.{Head6}
-use Rattle.ip6_packet.specs.Fragment.{fragment_offset, more_fragments}
+use Rattle.ip6_packet.specs.Fragment.{fragment_offset}
 use Rattle.ip6_packet.proofs.WrittenLemmas.{written_is6}
 use Rattle.ip6_packet.proofs.EmbeddedLemmas.{lacks_none6, headers_of6}
 use Rattle.packet_faults.specs.Cut.{Cut, piece}
