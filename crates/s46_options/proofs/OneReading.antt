@@ -6,7 +6,7 @@ use Rattle.octets.specs.Bits.{bit_of}
 use Rattle.octets.specs.Field.{octet, word}
 use Rattle.octets.specs.declared.prefix.Prefix4.{Prefix4}
 use Rattle.octets.specs.declared.prefix.Prefix6.{Prefix6}
-use Rattle.octets.proofs.OneValue.{same_prefix4, same_prefix6}
+use Rattle.octets.proofs.Same.{same_prefix4, same_prefix6}
 use Rattle.s46_options.specs.declared.subs.Sub.{Sub}
 use Rattle.s46_options.specs.declared.subs.Sub.TheVariants as sub
 use Rattle.s46_options.specs.declared.item.Item.{Item}
