@@ -16,3 +16,6 @@ pub use ask::FragAsk;
 pub use key::FragKey;
 pub use note::Note;
 pub use table::FragTable;
+
+#[cfg(test)]
+mod tests;
