@@ -2,7 +2,7 @@
 -- RFC 4443, section 2.4). Octets past its declared end belong to it as little as to any packet; the declared end
 -- may pass the octets that stand. Sums, options, source routes and fragment fields beyond the offset are judged
 -- by nobody.
-use Rattle.std.specs.Prelude.{◌≡◌, ◌≢◌, ℕ, ◌<◌, ◌≤◌, ◌⊎◌, List, length}
+use Rattle.std.specs.Prelude.{◌≡◌, ◌≢◌, ℕ, ◌<◌, ◌≤◌, ◌⊎◌, List, length, Option}
 use Rattle.octets.specs.Field.{octet}
 use Rattle.octets.specs.declared.proto.Proto.{Proto}
 use Rattle.octets.specs.declared.proto.Proto.TheVariants.{Tcp, Udp, Icmp}
@@ -10,6 +10,7 @@ use Rattle.ip4_packet.specs.declared.head.Head4.{Head4}
 use Rattle.ip4_packet.specs.Grammar.{payload_of as payload_of4}
 use Rattle.ip4_packet.specs.Embedded.{HasHeader4, LacksHeader4}
 use Rattle.ip6_packet.specs.declared.head.Head6.{Head6}
+use Rattle.ip6_packet.specs.declared.head.Frag6.{Frag6}
 use Rattle.ip6_packet.specs.Fragment.{fragment_offset}
 use Rattle.ip6_packet.specs.Grammar.{payload_of as payload_of6}
 use Rattle.ip6_packet.specs.Embedded.{HasHeaders6, LacksHeaders6}
@@ -36,6 +37,10 @@ IsCarried6 Tcp number payload = number ≡ 6
 IsCarried6 Udp number payload = number ≡ 17
 IsCarried6 Icmp number payload = (number ≡ 58) × IsEcho6 payload
 
+-- no Fragment Header, or that of a first fragment
+abbrev pub IsFirst6 : Option Frag6 → Type 0
+IsFirst6 frag = fragment_offset frag ≡ 0
+
 -- the octets begin with this embedded packet; the ports of an echo are both its identifier
 pub record IsInner4 (inner : Inner4) (octets : List ℕ) : Type 0 where
   pub header : HasHeader4 inner.head octets
@@ -49,7 +54,7 @@ pub record IsInner6 (inner : Inner6) (octets : List ℕ) : Type 0 where
   pub headers : HasHeaders6 inner.head octets
   pub payload : inner.payload ≡ payload_of6 inner.head octets
   pub stands : 8 ≤ length inner.payload
-  pub first : fragment_offset inner.head.frag ≡ 0
+  pub first : IsFirst6 inner.head.frag
   pub carried : IsCarried6 inner.proto inner.head.upper inner.payload
   pub ports : inner.ports ≡ (l4_of inner.proto inner.payload).ports
 
@@ -60,7 +65,7 @@ IsBadBehind4 h payload =
 
 abbrev pub IsBadBehind6 : Head6 → List ℕ → Type 0
 IsBadBehind6 h payload =
-    (length payload < 8) ⊎ ((fragment_offset h.frag ≢ 0) ⊎ ((proto : Proto) → IsCarried6 proto h.upper payload → ⊥))
+    (length payload < 8) ⊎ ((IsFirst6 h.frag → ⊥) ⊎ ((proto : Proto) → IsCarried6 proto h.upper payload → ⊥))
 
 -- The cause BadInner by these octets alone: no header stands there, or what is behind it is bad. Whether the
 -- addresses agree with those of the outer packet is judged elsewhere.

@@ -6,7 +6,7 @@ use Rattle.octets.specs.Field.{in_sixteen}
 use Rattle.ip6_packet.specs.declared.head.Head6.{Head6}
 use Rattle.ip6_packet.specs.declared.head.Frag6.{Frag6}
 use Rattle.octets.specs.Bits.{bit_of}
-use Rattle.ip6_packet.specs.Written.{fragment_header, fragment_part, next_header, fixed_header, written6, IsUpper, IsPlaced, IsInRange, FitsFrag, IsWritten6}
+use Rattle.ip6_packet.specs.Written.{fragment_header, fragment_part, next_header, fixed_header, written6, IsUpper, IsPlaced, IsInRange, FitsFrag, IsPacket6}
 use Rattle.ip6_packet.specs.Chain.{is_sized, frag_of, chain_in}
 use Rattle.ip6_packet.specs.Grammar.{payload_len, HasFields6, Is6}
 use Rattle.ip6_packet.specs.Causes.{IsNotIp6, IsTruncated6, IsBadHeader6, IsWrongFrag6, IsNoDestination6, HasNoCause6, IsSound6}
@@ -87,7 +87,7 @@ room upper start len None placed fits = record { start_is = sym placed; fits = o
 room upper start len (Some frag) placed fits = record { start_is = sym placed.0; fits = omega (arith, placed.1) }
 
 -- the written packet holds these fields and this payload
-pub written_is6 : (h : Head6) (payload octets : List ℕ) → IsWritten6 h payload octets → Is6 h payload octets
+pub written_is6 : (h : Head6) (payload octets : List ℕ) → IsPacket6 h payload octets → Is6 h payload octets
 written_is6 h payload octets form = rw form.written is
   where
     behind : List ℕ
@@ -115,7 +115,7 @@ written_is6 h payload octets form = rw form.written is
     }
 
 -- and has no cause
-pub written_again : (h : Head6) (payload octets : List ℕ) → IsWritten6 h payload octets → IsSound6 h payload → Is6 h payload octets × HasNoCause6 octets
+pub written_again : (h : Head6) (payload octets : List ℕ) → IsPacket6 h payload octets → IsSound6 h payload → Is6 h payload octets × HasNoCause6 octets
 written_again h payload octets form is_sound =
     let is = written_is6 h payload octets form in
     (is, sound h payload octets is (omega (arith, is.whole)) (rw is_sound.0 is_sound.1) is_sound.2)

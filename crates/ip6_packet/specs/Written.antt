@@ -57,7 +57,7 @@ pub record IsInRange (h : Head6) : Type 0 where
   pub dst : h.dst.0 < 2 ^ 128
 
 -- the octets are the packet with these headers and this payload as it is written
-pub record IsWritten6 (h : Head6) (payload octets : List ℕ) : Type 0 where
+pub record IsPacket6 (h : Head6) (payload octets : List ℕ) : Type 0 where
   pub exact : h.length ≡ length payload
   pub unrouted : h.left ≡ None
   pub upper : IsUpper h.upper

@@ -1,5 +1,5 @@
 ghost use Rattle.std.specs.Prelude.{◌≡◌, ◌^◌, ◌<◌, ◌≤◌, ◌++◌, length, IfOk, OnOk, None};
-ghost use Rattle.ip6_packet.specs.Written.{written6, fixed_header, fragment_header, fragment_part, IsUpper, IsPlaced, IsInRange, FitsFrag, IsWritten6};
+ghost use Rattle.ip6_packet.specs.Written.{written6, fixed_header, fragment_header, fragment_part, IsUpper, IsPlaced, IsInRange, FitsFrag, IsPacket6};
 ghost use Rattle.ip6_packet.specs.Fragment.{fragment_offset, more_fragments};
 ghost use Rattle.ip6_packet.specs.Grammar.{Is6};
 ghost use Rattle.ip6_packet.specs.Causes.{HasNoCause6, IsSound6};
@@ -136,7 +136,7 @@ impl Head6 {
         requires placed { IsPlaced self.now.start self.now.length self.now.frag }
         ensures written { IfOk result (λ octets. octets ≡ written6 self.now payload.now) }
         // A payload of the declared length makes a whole packet.
-        ensures form { self.now.length ≡ length payload.now → IfOk result (λ octets. IsWritten6 self.now payload.now octets) }
+        ensures form { self.now.length ≡ length payload.now → IfOk result (λ octets. IsPacket6 self.now payload.now octets) }
         // What is written is read again as the same fields and payload.
         ensures again { IsSound6 self.now payload.now → IfOk result (λ octets. Is6 self.now payload.now octets × HasNoCause6 octets) }
     {

@@ -11,12 +11,12 @@ use Rattle.ip6_packet.specs.declared.head.Head6.{Head6}
 use Rattle.ip6_packet.specs.declared.head.Frag6.{Frag6}
 use Rattle.ip6_packet.specs.Grammar.{payload_of}
 use Rattle.ip6_packet.specs.Causes.{IsWrongFrag6}
-use Rattle.ip6_packet.specs.Written.{IsWritten6, IsUpper, IsInRange}
+use Rattle.ip6_packet.specs.Written.{IsPacket6, IsUpper, IsInRange}
 use Rattle.ip6_packet.specs.Embedded.{HasHeaders6}
 use Rattle.ip6_packet.specs.Fragment.{fragment_offset, more_fragments}
 use Rattle.ip6_packet.proofs.WrittenLemmas.{written_is6}
 use Rattle.ip6_packet.proofs.EmbeddedLemmas.{same_headers6, headers_of6}
-use Rattle.packet_faults.specs.Cut.{Cut, piece_payload, piece_frag, piece_head, piece, AreCut, joined, GiveAgain, EachFits, IsCuttable}
+use Rattle.packet_faults.specs.Cut.{Cutting, piece_payload, piece_frag, piece_head, piece, AreCut, rejoined, GiveAgain, EachFits, IsCuttable}
 
 -- what is read of a packet that may be cut is what was written
 pub record Found (h g : Head6) (payload packet : List ℕ) : Type 0 where
@@ -39,11 +39,11 @@ room (Some frag) len agreed fits = within (cases_lt 65535 (frag.offset * 8 + len
     within (inr fits) = fits
 
 -- the pieces so far
-pub record Upto (cut : Cut) (pieces : List Parcel) : Type 0 where
+pub record Upto (cut : Cutting) (pieces : List Parcel) : Type 0 where
   pub within : (k : ℕ) → k < length pieces → k * cut.step < length cut.payload
   pub each : (k : ℕ) → k < length pieces → slice_get pieces k ≡ Some (piece cut (k * cut.step))
 
-pub none_yet : (cut : Cut) → Upto cut []
+pub none_yet : (cut : Cutting) → Upto cut []
 none_yet cut = record { within = λ k lt. absurd (omega arith); each = λ k lt. absurd (omega arith) }
 
 earlier : (pieces : List Parcel) (x : Parcel) (k : ℕ) → k < length pieces → slice_get (pieces ++ x ∷ []) k ≡ slice_get pieces k
@@ -62,7 +62,7 @@ at_most pieces x k lt =
     elim (cases_lt k (length pieces)) [ inl low ↦ inl low | inr high ↦ inr (omega (arith, length-append pieces (x ∷ []))) ]
 
 -- and one more
-pub one_more : (cut : Cut) (pieces : List Parcel) (x : Parcel) → Upto cut pieces → length pieces * cut.step < length cut.payload
+pub one_more : (cut : Cutting) (pieces : List Parcel) (x : Parcel) → Upto cut pieces → length pieces * cut.step < length cut.payload
     → x ≡ piece cut (length pieces * cut.step) → Upto cut (pieces ++ x ∷ [])
 one_more cut pieces x upto inside is = record {
   within = λ k lt. within k (at_most pieces x k lt);
@@ -78,7 +78,7 @@ one_more cut pieces x upto inside is = record {
     each k (inr e) = rw e (latest pieces x ∙ ap (λ (p : Parcel). Some p) is)
 
 -- those that reach the end of the payload are all
-pub all_cut : (cut : Cut) (pieces : List Parcel) → Upto cut pieces → length cut.payload ≤ length pieces * cut.step → AreCut cut pieces
+pub all_cut : (cut : Cutting) (pieces : List Parcel) → Upto cut pieces → length cut.payload ≤ length pieces * cut.step → AreCut cut pieces
 all_cut cut pieces upto reached = record {
   each = λ k inside. upto.each k (before k inside (cases_lt k (length pieces)));
   no_more = λ k past. behind k past (cases_lt k (length pieces));
@@ -93,18 +93,18 @@ all_cut cut pieces upto reached = record {
     behind k past (inr high) = slice_get_past pieces k high
 
 -- the payloads of the pieces are the beginning of the packet's
-joined_is : (cut : Cut) (n : ℕ) → joined cut n ≡ take (n * cut.step) cut.payload
+joined_is : (cut : Cutting) (n : ℕ) → rejoined cut n ≡ take (n * cut.step) cut.payload
 joined_is cut zero = let none : 0 * cut.step ≡ 0 = omega arith in rw none refl
 joined_is cut (suc n) =
     let more : n * cut.step + cut.step ≡ suc n * cut.step = omega arith in
     ap (λ (xs : List ℕ). xs ++ piece_payload cut (n * cut.step)) (joined_is cut n)
     ∙ (sym (take-add (n * cut.step) cut.step cut.payload) ∙ ap (λ (m : ℕ). take m cut.payload) more)
 
-length-joined : (cut : Cut) (n : ℕ) → length (joined cut n) ≡ min (n * cut.step) (length cut.payload)
-length-joined cut n = ap length (joined_is cut n) ∙ length-take (n * cut.step) cut.payload
+length-rejoined : (cut : Cutting) (n : ℕ) → length (rejoined cut n) ≡ min (n * cut.step) (length cut.payload)
+length-rejoined cut n = ap length (joined_is cut n) ∙ length-take (n * cut.step) cut.payload
 
 -- what is needed of a packet that is cut
-pub record MayCut (cut : Cut) : Type 0 where
+pub record MayCut (cut : Cutting) : Type 0 where
   pub in_range : IsInRange cut.head
   pub upper : IsUpper cut.head.upper
   pub room : fragment_offset cut.head.frag * 8 + length cut.payload ≤ 65535
@@ -114,10 +114,10 @@ pub record MayCut (cut : Cut) : Type 0 where
   pub id : cut.id < 2 ^ 32
 
 -- a piece is short, and is written
-length-piece : (cut : Cut) (at : ℕ) → length (piece_payload cut at) ≡ min cut.step (length cut.payload - at)
+length-piece : (cut : Cutting) (at : ℕ) → length (piece_payload cut at) ≡ min cut.step (length cut.payload - at)
 length-piece cut at = length-take cut.step (drop at cut.payload) ∙ ap (min cut.step) (length-drop at cut.payload)
 
-piece_form : (cut : Cut) (at : ℕ) → MayCut cut → at < length cut.payload → IsWritten6 (piece_head cut at) (piece_payload cut at) (piece cut at).bytes
+piece_form : (cut : Cutting) (at : ℕ) → MayCut cut → at < length cut.payload → IsPacket6 (piece_head cut at) (piece_payload cut at) (piece cut at).bytes
 piece_form cut at may inside =
     let len : length (piece_payload cut at) ≤ cut.step = omega (arith, length-piece cut at) in
     record {
@@ -136,7 +136,7 @@ piece_form cut at may inside =
     }
 
 -- the pieces give the payload again
-pub give_again : (cut : Cut) (n : ℕ) → MayCut cut → length cut.payload ≤ n * cut.step → GiveAgain cut n
+pub give_again : (cut : Cutting) (n : ℕ) → MayCut cut → length cut.payload ≤ n * cut.step → GiveAgain cut n
 give_again cut n may reached = record {
   reads = λ k inside. written_is6 (piece_head cut (k * cut.step)) (piece_payload cut (k * cut.step)) (piece cut (k * cut.step)).bytes (piece_form cut (k * cut.step) may inside);
   begins = begins;
@@ -145,23 +145,23 @@ give_again cut n may reached = record {
   again = joined_is cut n ∙ take_all (n * cut.step) cut.payload reached;
 }
   where
-    begins : (k : ℕ) → k * cut.step < length cut.payload → (piece_frag cut (k * cut.step)).offset * 8 ≡ fragment_offset cut.head.frag * 8 + length (joined cut k)
+    begins : (k : ℕ) → k * cut.step < length cut.payload → (piece_frag cut (k * cut.step)).offset * 8 ≡ fragment_offset cut.head.frag * 8 + length (rejoined cut k)
     begins k inside =
         let whole : k * cut.step ≡ 8 * (k * may.units) = rw may.step_is (omega arith) in
-        omega (arith, length-joined cut k)
+        omega (arith, length-rejoined cut k)
 
-    more_inside : (k : ℕ) → length (joined cut (suc k)) < length cut.payload → (piece_frag cut (k * cut.step)).more ≡ true
+    more_inside : (k : ℕ) → length (rejoined cut (suc k)) < length cut.payload → (piece_frag cut (k * cut.step)).more ≡ true
     more_inside k inside =
         let next : suc k * cut.step ≡ k * cut.step + cut.step = omega arith in
-        rw (lt-ltb (k * cut.step + cut.step) (length cut.payload) (omega (arith, length-joined cut (suc k)))) refl
+        rw (lt-ltb (k * cut.step + cut.step) (length cut.payload) (omega (arith, length-rejoined cut (suc k)))) refl
 
-    more_at_end : (k : ℕ) → length (joined cut (suc k)) ≡ length cut.payload → (piece_frag cut (k * cut.step)).more ≡ more_fragments cut.head.frag
+    more_at_end : (k : ℕ) → length (rejoined cut (suc k)) ≡ length cut.payload → (piece_frag cut (k * cut.step)).more ≡ more_fragments cut.head.frag
     more_at_end k ended =
         let next : suc k * cut.step ≡ k * cut.step + cut.step = omega arith in
-        rw (le-ltb (k * cut.step + cut.step) (length cut.payload) (omega (arith, length-joined cut (suc k)))) refl
+        rw (le-ltb (k * cut.step + cut.step) (length cut.payload) (omega (arith, length-rejoined cut (suc k)))) refl
 
 -- and each is short enough
-pub each_fits : (cut : Cut) (pieces : List Parcel) (mtu6 : ℕ) → Upto cut pieces → cut.step + 48 ≤ mtu6 → EachFits mtu6 pieces
+pub each_fits : (cut : Cutting) (pieces : List Parcel) (mtu6 : ℕ) → Upto cut pieces → cut.step + 48 ≤ mtu6 → EachFits mtu6 pieces
 each_fits cut pieces mtu6 upto fits k found is =
     let there = upto.each k (slice_get_within pieces k found is) in
     let e : found ≡ piece cut (k * cut.step) = cc (there, is) in

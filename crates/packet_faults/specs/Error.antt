@@ -39,13 +39,13 @@ abbrev pub IsUnanswered6 : Head6 → List ℕ → Type 0
 IsUnanswered6 h payload = IsError6 h.upper payload ⊎ ((fragment_offset h.frag ≢ 0) ⊎ IsNoDestination6 h.src.0)
 
 -- what an error says: its type, its code, and the four octets behind its sum
-pub record Said : Type 0 where
+pub record Notice : Type 0 where
   pub kind : ℕ
   pub code : ℕ
   pub rest : ℕ
 
-abbrev pub said : ℕ → ℕ → ℕ → Said
-said kind code rest = record { kind = kind; code = code; rest = rest }
+abbrev pub notice : ℕ → ℕ → ℕ → Notice
+notice kind code rest = record { kind = kind; code = code; rest = rest }
 
 -- The packet that an error embeds: as it was received up to its declared end, cut so that the error has at most
 -- 576 octets over IPv4, and at most 1280 over IPv6, its headers of 20 and 8 or of 40 and 8 octets counted.
@@ -86,19 +86,19 @@ error_head6 h src len = record {
 }
 
 -- the error's message, with its sum
-abbrev pub error_message4 : Head4 → List ℕ → Said → List ℕ
+abbrev pub error_message4 : Head4 → List ℕ → Notice → List ℕ
 error_message4 h packet what =
     message4 (record { kind = what.kind; code = what.code; rest = what.rest; body = embedded4 h packet })
 
-abbrev pub error_message6 : Head6 → List ℕ → Said → Addr6 → List ℕ
+abbrev pub error_message6 : Head6 → List ℕ → Notice → Addr6 → List ℕ
 error_message6 h packet what src =
     message6 src h.src (record { kind = what.kind; code = what.code; rest = what.rest; body = embedded6 h packet })
 
 -- the error that answers a packet with this header
-abbrev pub error4 : Head4 → List ℕ → Said → Addr4 → ℕ → List ℕ
+abbrev pub error4 : Head4 → List ℕ → Notice → Addr4 → ℕ → List ℕ
 error4 h packet what src id =
     written4 (error_head4 h src id (length (error_message4 h packet what))) (error_message4 h packet what)
 
-abbrev pub error6 : Head6 → List ℕ → Said → Addr6 → List ℕ
+abbrev pub error6 : Head6 → List ℕ → Notice → Addr6 → List ℕ
 error6 h packet what src =
     written6 (error_head6 h src (length (error_message6 h packet what src))) (error_message6 h packet what src)

@@ -4,7 +4,7 @@ ghost use Rattle.std.specs.Prelude.{◌≡◌, ◌≤◌, ◌↔◌, IsTrue, Lis
 ghost use Rattle.ip4_packet.specs.declared.head.Head4.{Head4 as Header};
 ghost use Rattle.ip4_packet.specs.Grammar.{Is4};
 ghost use Rattle.ip4_packet.specs.Causes.{HasNoCause4};
-ghost use Rattle.packet_faults.specs.Error.{IsError4, IsUnanswered4, said, embedded4, error_head4, error_message4, error4};
+ghost use Rattle.packet_faults.specs.Error.{IsError4, IsUnanswered4, notice, embedded4, error_head4, error_message4, error4};
 
 use icmp_messages::Icmp4;
 use ip4_packet::{Head4, is_no_destination};
@@ -70,7 +70,7 @@ pub fn fault4(
 ) -> Result<Option<Bytes>, NoMemory>
     requires { HasNoCause4 packet.now }
     ensures none { (h : Header) (payload : List ℕ) → Is4 h payload packet.now → IfOk result (λ error. (error ≡ None) ↔ IsUnanswered4 h payload) }
-    ensures error { (h : Header) (payload : List ℕ) → Is4 h payload packet.now → IfOk result (λ error. IfSome error (λ octets. octets ≡ error4 h packet.now (said kind code rest) src id)) }
+    ensures error { (h : Header) (payload : List ℕ) → Is4 h payload packet.now → IfOk result (λ error. IfSome error (λ octets. octets ≡ error4 h packet.now (notice kind code rest) src id)) }
     ensures bounded { IfOk result (λ error. IfSome error (λ octets. length octets ≤ 576)) }
     // The error is a packet that the header reader accepts.
     ensures accepted { IfOk result (λ error. IfSome error (λ octets. HasNoCause4 octets)) }

@@ -4,7 +4,7 @@ ghost use Rattle.std.specs.Prelude.{◌≡◌, ◌≤◌, ◌↔◌, IsTrue, Lis
 ghost use Rattle.ip6_packet.specs.declared.head.Head6.{Head6 as Header};
 ghost use Rattle.ip6_packet.specs.Grammar.{Is6};
 ghost use Rattle.ip6_packet.specs.Causes.{HasNoCause6};
-ghost use Rattle.packet_faults.specs.Error.{IsError6, IsUnanswered6, said, embedded6, error_head6, error_message6, error6};
+ghost use Rattle.packet_faults.specs.Error.{IsError6, IsUnanswered6, notice, embedded6, error_head6, error_message6, error6};
 
 use icmp_messages::Icmp6;
 use ip6_packet::{Head6, is_no_destination};
@@ -62,7 +62,7 @@ pub fn fault6(
 ) -> Result<Option<Bytes>, NoMemory>
     requires { HasNoCause6 packet.now }
     ensures none { (h : Header) (payload : List ℕ) → Is6 h payload packet.now → IfOk result (λ error. (error ≡ None) ↔ IsUnanswered6 h payload) }
-    ensures error { (h : Header) (payload : List ℕ) → Is6 h payload packet.now → IfOk result (λ error. IfSome error (λ octets. octets ≡ error6 h packet.now (said kind code rest) src)) }
+    ensures error { (h : Header) (payload : List ℕ) → Is6 h payload packet.now → IfOk result (λ error. IfSome error (λ octets. octets ≡ error6 h packet.now (notice kind code rest) src)) }
     ensures bounded { IfOk result (λ error. IfSome error (λ octets. length octets ≤ 1280)) }
     // The error is a packet that the header reader accepts.
     ensures accepted { IfOk result (λ error. IfSome error (λ octets. HasNoCause6 octets)) }

@@ -4,7 +4,7 @@ use Rattle.ip6_packet.specs.declared.head.Head6.{Head6}
 use Rattle.ip6_packet.specs.Fragment.{fragment_offset}
 use Rattle.ip6_packet.proofs.WrittenLemmas.{written_is6}
 use Rattle.ip6_packet.proofs.EmbeddedLemmas.{lacks_none6, headers_of6}
-use Rattle.packet_faults.specs.Cut.{Cut, piece}
+use Rattle.packet_faults.specs.Cut.{Cutting, piece}
 use Rattle.packet_faults.proofs.CutLemmas.{found, room, none_yet, one_more, all_cut, MayCut, give_again, each_fits}
 use Rattle.packet_faults.proofs.cut.cut6.Goals as goal
 
@@ -39,7 +39,7 @@ pub loop-at-preserved : goal.loop-at-preserved
 loop-at-preserved c =
     let pieces = c.loop-at.pieces in
     let step = (c.args.mtu6 - 48) / 8 * 8 in
-    let cut : Cut = record { head = c.in-Some.head; payload = c.payload-payload.result.now; step = step; id = c.args.id } in
+    let cut : Cutting = record { head = c.in-Some.head; payload = c.payload-payload.result.now; step = step; id = c.args.id } in
     let new : Parcel = record { place = 0; bytes = c.in_ok-piece.field-0 } in
     let is : new ≡ piece cut (length pieces * step) =
     ap (λ (b : List ℕ). let p : Parcel = record { place = 0; bytes = b } in p) c.in_ok-piece.ensures ∙ ap (piece cut) c.loop-at.invariant.counted in
@@ -64,7 +64,7 @@ returns-clause-again c = λ h payload may.
     let read : payload ≡ c.payload-payload.result.now = is.payload_is ∙ sym c.payload-payload.ensures in
     let reached : length c.payload-payload.result.now ≤ length c.loop-at.pieces * ((c.args.mtu6 - 48) / 8 * 8) = rw c.loop-at.invariant.counted at c.loop-at-test.false in
     let fits : fragment_offset h.frag * 8 + h.length ≤ 65535 = room h.frag h.length may.agreed may.form.in_range.length_fits in
-    let cut : Cut = record { head = h; payload = payload; step = (c.args.mtu6 - 48) / 8 * 8; id = c.args.id } in
+    let cut : Cutting = record { head = h; payload = payload; step = (c.args.mtu6 - 48) / 8 * 8; id = c.args.id } in
     let may_cut : MayCut cut = record {
       in_range = may.form.in_range;
       upper = may.form.upper;

@@ -1,5 +1,5 @@
 use Rattle.std.proofs.Common.{rules}
-use Rattle.ip6_packet.specs.Written.{IsWritten6}
+use Rattle.ip6_packet.specs.Written.{IsPacket6}
 use Rattle.ip6_packet.proofs.WrittenLemmas.{written_again}
 use Rattle.ip6_packet.proofs.head.Head6.write.Goals as goal
 
@@ -18,7 +18,7 @@ pub returns-clause-again : goal.returns-clause-again
 returns-clause-again c = λ is_sound.
     let h = c.args.self.now in
     let payload = c.args.payload.now in
-    let form : IsWritten6 h payload c.extend-2.new.self = record {
+    let form : IsPacket6 h payload c.extend-2.new.self = record {
       exact = is_sound.0;
       unrouted = c.requires.unrouted;
       upper = c.requires.upper;
