@@ -2,6 +2,7 @@
 #![tactic(auto)]
 
 mod entry;
+mod equal;
 mod fault;
 mod form;
 mod frame;
@@ -10,6 +11,7 @@ mod reader;
 mod records;
 mod writer;
 
+pub use equal::equal_faults_are_the_same;
 pub use fault::CaptureFault;
 pub use laws::{followers_change_nothing, reading_is_by_the_grammar, written_is_read};
 pub use reader::read;
