@@ -1,5 +1,5 @@
 -- One binding: what it is for, and how it changes.
-use Rattle.std.specs.Prelude.{ℕ, ◌+◌, ◌==◌, ◌&&◌, nat_lt, max, Bool, true, false, if◌then◌else◌, List, [], ◌∷◌}
+use Rattle.std.specs.Prelude.{ℕ, ◌+◌, ◌==◌, ◌&&◌, nat_lt, max, not, Bool, true, false, if◌then◌else◌, List, [], ◌∷◌}
 use Rattle.octets.specs.declared.proto.Proto.{Proto}
 use Rattle.octets.specs.declared.proto.Proto.TheVariants.{Tcp, Udp, Icmp}
 use Rattle.port_set.specs.PortSet.{is_claimable}
@@ -48,10 +48,10 @@ extended until b = record b { deadline = max b.deadline until }
 abbrev pub refreshed : ℕ → Binding → Binding
 refreshed clock b = extended (clock + timer b.proto b.live) b
 
--- an inward flow of TCP makes it live and refreshes it; others leave it as it is (RFC 4787, section 4.3,
--- requirement 6: no refresh from outside)
-abbrev pub entered : ℕ → Binding → Binding
-entered clock b = if same_proto b.proto Tcp then refreshed clock (record b { live = true }) else b
+-- what an inward packet makes of its binding: a flow of TCP makes it live and refreshes it. Errors and other flows
+-- leave it as it is (RFC 4787, section 4.3, requirement 6: no refresh from outside)
+abbrev pub entered : Bool → ℕ → Binding → Binding
+entered fault clock b = if same_proto b.proto Tcp && not fault then refreshed clock (record b { live = true }) else b
 
 -- it is kept, at least until then
 abbrev pub kept_until : ℕ → Binding → Binding

@@ -1,6 +1,5 @@
 -- The fragment of an ask: which fragment step it takes, and the ports that it goes by.
-use Rattle.std.specs.Prelude.{ℕ, List, Option, Some, None}
-use Rattle.octets.specs.declared.parcel.Parcel.{Parcel}
+use Rattle.std.specs.Prelude.{ℕ, Option, Some, None}
 use Rattle.l4_headers.specs.declared.ports.Ports.{Ports}
 use Rattle.frag_table.specs.declared.ask.FragAsk.{FragAsk}
 use Rattle.frag_table.specs.declared.ask.FragAsk.TheVariants.{First as FirstAsk, Later as LaterAsk}
@@ -38,8 +37,3 @@ abbrev pub frag_ask_of : Part → Ports → Option FragAsk
 frag_ask_of Whole ports = None
 frag_ask_of (First key) ports = Some (FirstAsk key ports)
 frag_ask_of (Later key octets) ports = Some (LaterAsk key octets)
-
--- what a packet is translated by once its fragment step is made: its ports, and the fragments that it frees
-pub record Gathered : Type 0 where
-  pub ports : Ports
-  pub freed : List Parcel

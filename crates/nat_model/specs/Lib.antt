@@ -7,6 +7,7 @@ pub mod Fragment
 pub mod Remote
 pub mod Machine
 pub mod Sound
+pub mod Inside
 pub mod Stripe
 pub mod History
 pub mod Waiting

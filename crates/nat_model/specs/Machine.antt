@@ -1,5 +1,5 @@
 -- The NAPT44 of a customer edge: seven steps, in this order (RFC 7599, section 8; RFC 6146, section 3.5).
-use Rattle.std.specs.Prelude.{ℕ, ◌==◌, ◌&&◌, nat_lt, max, Bool, true, false, if◌then◌else◌, List, [], Option, Some, None, Result, Ok, Err}
+use Rattle.std.specs.Prelude.{ℕ, ◌==◌, ◌&&◌, nat_lt, max, Bool, true, if◌then◌else◌, List, [], Option, Some, None, Result, Ok, Err}
 use Rattle.std.specs.List.{filter, find}
 use Rattle.octets.specs.declared.prefix.Prefix6.{Prefix6}
 use Rattle.octets.specs.declared.parcel.Parcel.{Parcel}
@@ -20,9 +20,12 @@ use Rattle.nat_model.specs.declared.ask.Ask.{Ask}
 use Rattle.nat_model.specs.declared.ask.Ask.TheVariants.{Outward, Inward, Keep}
 use Rattle.nat_model.specs.declared.binding.Binding.{Binding}
 use Rattle.nat_model.specs.Binding.{is_of_host, is_of_port, is_unexpired, outlives, refreshed, entered, kept_until, first_changed}
-use Rattle.nat_model.specs.Claim.{Wish, Bound, bound}
-use Rattle.nat_model.specs.Fragment.{Gathered, ports_of, part_of, frag_ask_of}
-use Rattle.nat_model.specs.Remote.{Remote, remote, far_port, sent}
+use Rattle.nat_model.specs.declared.claim.Wish.{Wish}
+use Rattle.nat_model.specs.declared.fragment.Gathered.{Gathered}
+use Rattle.nat_model.specs.declared.remote.Remote.{Remote}
+use Rattle.nat_model.specs.Claim.{Bound, bound}
+use Rattle.nat_model.specs.Fragment.{ports_of, part_of, frag_ask_of}
+use Rattle.nat_model.specs.Remote.{remote, far_port, sent}
 use Rattle.nat_model.specs.State.{Generation, NatState, NatStep, Moment, holder_at}
 
 -- a step that changes nothing more
@@ -89,18 +92,17 @@ sent_error_by h s far freed (Some b) = ends s (sent_from h s b far freed)
 unfoldable pub sent_error : Holder → NatState → Wish → End4 → List Parcel → NatStep
 sent_error h s wish far freed = sent_error_by h s far freed (find (is_of_host wish.proto wish.near) s.bindings)
 
--- an inward packet goes by the binding of its protocol and outside port. A flow enters it, an error changes none
-abbrev pub with_entry : Bool → Proto → ℕ → NatState → NatState
-with_entry true proto port s = s
-with_entry false proto port s = with_bindings s (first_changed (is_of_port proto port) (entered s.clock) s.bindings)
-
+-- an inward packet goes by the binding of its protocol and outside port, and enters it
 abbrev pub received_by : NatState → NatState → List Parcel → Remote → Option Binding → NatStep
 received_by s after freed r None = refuses s NoBinding freed
 received_by s after freed r (Some b) = ends after (In b.host b.host_port r.from r.peer freed)
 
+abbrev pub with_entry : NatState → Bool → Proto → ℕ → NatState
+with_entry s fault proto port = with_bindings s (first_changed (is_of_port proto port) (entered fault s.clock) s.bindings)
+
 unfoldable pub received : NatState → Bool → Proto → Gathered → Remote → NatStep
 received s fault proto g r =
-    received_by s (with_entry fault proto g.ports.dst s) g.freed r (find (is_of_port proto g.ports.dst) s.bindings)
+    received_by s (with_entry s fault proto g.ports.dst) g.freed r (find (is_of_port proto g.ports.dst) s.bindings)
 
 -- a port is kept: the binding of the protocol and host end, or else a claim
 abbrev pub kept_by : NatState → Option Bound → NatStep
@@ -149,10 +151,10 @@ held_by s place ask None = refuses s NoBasicRule []
 held_by s place ask (Some h) =
     if arrives h ask then gathered h s place ask (frag_ask_of (part_of ask) (ports_of ask)) else refuses s WrongDestination []
 
--- the state of a step once the rules and the time are known
-abbrev pub begun : Prefix6 → Moment → NatState → NatState
-begun prefix m s = at_time m.now (renewed prefix m.seen s)
+-- STEPS 2 to 7, under the state's own rules
+unfoldable pub timed : Prefix6 → NatState → ℕ → ℕ → Ask → NatStep
+timed prefix s now place ask = let t = at_time now s in held_by t place ask (holder_at prefix t)
 
 -- a step of the machine of the edge with this prefix
 unfoldable pub nat : Prefix6 → NatState → Moment → Ask → NatStep
-nat prefix s m ask = let t = begun prefix m s in held_by t m.place ask (holder_at prefix t)
+nat prefix s m ask = timed prefix (renewed prefix m.seen s) m.now m.place ask

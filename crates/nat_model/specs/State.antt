@@ -3,6 +3,8 @@ use Rattle.std.specs.Prelude.{ℕ, List}
 use Rattle.octets.specs.declared.prefix.Prefix6.{Prefix6}
 use Rattle.map_rules.specs.declared.rule.Rule.{Rule}
 use Rattle.map_rules.specs.declared.dmr.Dmr.{Dmr}
+use Rattle.rule_book.specs.declared.book.Book.{Book}
+use Rattle.rule_book.specs.Book.{rules_of, dmr_of, generation_of}
 use Rattle.rule_book.specs.Holder.{Holder, holder_of}
 use Rattle.frag_table.specs.declared.note.Note.{Note}
 use Rattle.nat_model.specs.declared.answer.Answer.{Answer}
@@ -14,6 +16,10 @@ pub record Generation : Type 0 where
   pub rules : List Rule
   pub dmr : Dmr
   pub number : ℕ
+
+-- those of a book
+abbrev pub generation_in : Book → Generation
+generation_in book = record { rules = rules_of book; dmr = dmr_of book; number = generation_of book }
 
 -- a state: the rules that it goes by, the greatest time that was seen, in microseconds, the bindings in the order
 -- in which they were made, and the notes on fragments
@@ -43,3 +49,7 @@ pub record NatMachine : Type 0 where
 -- what the edge with this prefix holds by the state's rules
 abbrev pub holder_at : Prefix6 → NatState → Option Holder
 holder_at prefix s = holder_of s.book.rules prefix
+
+-- the state of these parts
+abbrev pub state_at : Generation → ℕ → List Binding → List Note → NatState
+state_at book clock bs notes = record { book = book; clock = clock; bindings = bs; notes = notes }

@@ -1,5 +1,9 @@
+ghost use Rattle.std.specs.Prelude.{◌≡◌, IsOk, IfOk};
+ghost use Rattle.nat_model.specs.Copied.{PartHasNoOctets, AskHasNoOctets};
+
 use frag_table::FragKey;
-use octets::{Addr4, Addr6, Bytes, Proto};
+use octets::{Addr4, Addr6, Bytes, NoMemory, Proto};
+use std::alloc::Global;
 
 /// An IPv4 address and a port: one end of a flow. The port of an ICMP query is its identifier.
 #[derive(Clone, Copy, Debug, PartialEq, Eq, Hash)]
@@ -71,4 +75,72 @@ pub enum Ask {
         port: u16,
         until: u64,
     },
+}
+
+impl Part {
+    /// The same part once more. A part without octets takes no memory.
+    pub(crate) fn copy(&self, alloc: Global) -> Result<Part, NoMemory>
+        ensures same { IfOk result (λ copied. copied ≡ self.now) }
+        ensures without_octets { PartHasNoOctets self.now → IsOk result }
+    {
+        match self {
+            Part::Whole => Ok(Part::Whole),
+            Part::First(key) => Ok(Part::First(*key)),
+            Part::Later(key, octets) => Ok(Part::Later(*key, octets.copy(alloc)?)),
+        }
+    }
+}
+
+impl Ask {
+    /// The same ask once more. An ask without octets takes no memory.
+    pub fn copy(&self, alloc: Global) -> Result<Ask, NoMemory>
+        ensures same { IfOk result (λ copied. copied ≡ self.now) }
+        ensures without_octets { AskHasNoOctets self.now → IsOk result }
+    {
+        match self {
+            Ask::Outward {
+                fault,
+                proto,
+                near,
+                far,
+                flags,
+                part,
+            } => Ok(Ask::Outward {
+                fault: *fault,
+                proto: *proto,
+                near: *near,
+                far: *far,
+                flags: *flags,
+                part: part.copy(alloc)?,
+            }),
+            Ask::Inward {
+                fault,
+                proto,
+                port,
+                far,
+                flags,
+                part,
+            } => Ok(Ask::Inward {
+                fault: *fault,
+                proto: *proto,
+                port: *port,
+                far: *far,
+                flags: *flags,
+                part: part.copy(alloc)?,
+            }),
+            Ask::Keep {
+                proto,
+                host,
+                host_port,
+                port,
+                until,
+            } => Ok(Ask::Keep {
+                proto: *proto,
+                host: *host,
+                host_port: *host_port,
+                port: *port,
+                until: *until,
+            }),
+        }
+    }
 }

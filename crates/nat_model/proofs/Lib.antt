@@ -1,0 +1,6 @@
+pub mod Claims
+pub mod LastStep
+pub mod Ports
+pub mod Notes
+pub mod Soundness
+pub mod EachStep

@@ -1,0 +1,79 @@
+ghost use Rattle.std.specs.Prelude.{◌≡◌, IfOk};
+ghost use Rattle.nat_model.specs.Fragment.{port_of, ports_of, part_of, frag_ask_of};
+ghost use Rattle.rule_book.specs.Holder.{holder_in};
+ghost use Rattle.nat_model.specs.Machine.{arrives};
+
+use crate::{Ask, Far, Part};
+use frag_table::FragAsk;
+use l4_headers::Ports;
+use map_rules::EdgeId;
+use octets::{NoMemory, Parcels};
+use std::alloc::Global;
+
+/// What a packet is translated by once its fragment step is made: its ports, and the fragments that it frees.
+#[derive(Debug, Drop)]
+pub(crate) struct Gathered {
+    pub(crate) ports: Ports,
+    pub(crate) freed: Parcels,
+}
+
+/// The ports of the packet that is asked about, its source's first.
+pub(crate) fn ports_of(ask: &Ask) -> Ports
+    ensures { result ≡ ports_of ask.now }
+{
+    match ask {
+        Ask::Outward { near, far, .. } => Ports {
+            src: near.port,
+            dst: far.port,
+        },
+        Ask::Inward { port, far, .. } => Ports {
+            src: port_of(far),
+            dst: *port,
+        },
+        Ask::Keep {
+            host_port,
+            port,
+            ..
+        } => Ports {
+            src: *host_port,
+            dst: *port,
+        },
+    }
+}
+
+/// The remote port.
+fn port_of(far: &Far) -> u16
+    ensures { result ≡ port_of far.now }
+{
+    match far {
+        Far::Six { port, .. } | Far::Turned { port, .. } => *port,
+    }
+}
+
+/// The fragment step of an ask, if it is about a fragment.
+pub(crate) fn frag_ask_of(alloc: Global, ask: &Ask) -> Result<Option<FragAsk>, NoMemory>
+    ensures { IfOk result (λ step. step ≡ frag_ask_of (part_of ask.now) (ports_of ask.now)) }
+{
+    let part = match ask {
+        Ask::Outward { part, .. } | Ask::Inward { part, .. } => part,
+        Ask::Keep { .. } => return Ok(None),
+    };
+    Ok(match part {
+        Part::Whole => None,
+        Part::First(key) => Some(FragAsk::First(*key, ports_of(ask))),
+        Part::Later(key, octets) => Some(FragAsk::Later(*key, octets.copy(alloc)?)),
+    })
+}
+
+/// Whether the packet is for the edge: an inward one for its own MAP address, and a turned one for its IPv4 address.
+pub(crate) fn arrives(edge: &EdgeId, ask: &Ask) -> bool
+    ensures { result ≡ arrives (holder_in edge.now) ask.now }
+{
+    match ask {
+        Ask::Outward { .. } | Ask::Keep { .. } => true,
+        Ask::Inward { far, .. } => match far {
+            Far::Six { dst, .. } => *dst == edge.own6,
+            Far::Turned { dst, .. } => *dst == edge.addr,
+        },
+    }
+}
