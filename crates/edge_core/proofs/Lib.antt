@@ -1,1 +1,3 @@
 pub mod Stripes
+pub mod Books
+pub mod Entries

@@ -1,1 +1,4 @@
 pub mod Stripe
+pub mod Used
+pub mod Sound
+pub mod Edge

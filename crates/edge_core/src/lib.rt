@@ -2,7 +2,11 @@
 //! answer in the history is the machine's, and replaying it gives the state.
 #![tactic(auto)]
 
+mod edge;
+mod newer;
+mod noted;
 mod stripe;
 
+pub use edge::EdgeState;
 pub use nat_model::StripeEntry;
 pub use stripe::StripeState;

@@ -4,3 +4,5 @@ pub mod Ports
 pub mod Notes
 pub mod Soundness
 pub mod EachStep
+pub mod Freed
+pub mod NextGeneration

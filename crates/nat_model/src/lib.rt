@@ -13,8 +13,8 @@ mod machine;
 mod remote;
 mod stay;
 mod steps;
-mod timer;
 mod stripe;
+mod timer;
 
 pub use answer::Answer;
 pub use ask::{Ask, End4, Far, Part};

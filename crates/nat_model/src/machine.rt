@@ -1,12 +1,13 @@
 ghost use Rattle.std.specs.Prelude.{◌≡◌, ◌<◌, ◌≤◌, ◌-◌, ◌+◌, ◌^◌, [], IfOk, OnOk, OnErr};
 ghost use Rattle.rule_book.specs.Holder.{holder_of};
 ghost use Rattle.nat_model.specs.Machine.{nat, timed, held_by, renewed};
-ghost use Rattle.nat_model.specs.State.{generation_in, state_at};
+ghost use Rattle.nat_model.specs.State.{Generation, generation_in, state_at};
 ghost use Rattle.nat_model.specs.Binding.{is_unexpired};
 ghost use Rattle.std.specs.List.{filter};
 ghost use Rattle.nat_model.specs.Sound.{AreSound, IsSound};
+ghost use Rattle.nat_model.specs.Waiting.{FreesAtMost};
 
-use crate::fragment::arrives;
+use crate::fragment::{arrives, frag_ask_of};
 use crate::stay::{staying, unexpired};
 use crate::steps::{Standing, refused};
 use crate::{Answer, Ask, Binding};
@@ -68,6 +69,20 @@ impl Machine {
             steps: 0,
             alloc,
         })
+    }
+
+    /// A copy of the parcels that a step for this ask would free, if it frees any. Nothing changes.
+    pub fn waiting(&self, now: u64, ask: &Ask) -> Result<Parcels, NoMemory>
+        ensures { IfOk result (λ parcels. (seen : Generation) → FreesAtMost parcels (nat self.now.prefix self.now.state (record {
+          seen = seen;
+          now = now;
+          place = self.now.steps;
+        }) ask.now).answer) }
+    {
+        match frag_ask_of(self.alloc, ask)? {
+            Some(fragment) => self.notes.waiting(self.clock.max(now), &fragment),
+            None => Ok(Parcels::new(self.alloc)),
+        }
     }
 
     /// The step under the view's rules, which are newer than its own.
