@@ -128,7 +128,7 @@ in-front place number header others chain c sized is upper start frag left r = r
   headers = header ∷ r.headers;
   last = r.last;
   rest = r.rest;
-  are = (sized, (others, refl, is, r.are));
+  are = (sized, is, (others, refl, r.are));
   no_more = r.no_more;
   ends = ends-as (place + length header + length (concat r.headers)) (place + length (header ++ concat r.headers)) r.last r.rest c chain (omega (arith, length-append header (concat r.headers))) upper start frag r.ends;
   left = left ∙ ap (λ (o : Option ℕ). option_or (route_at number (place + 3) (get_or header 3 0)) o) r.left;
@@ -230,14 +230,14 @@ again [] place number octets last rest chain are upper ends left =
     ∙ ap (λ (xs : List ℕ). end_of place last xs) are.1
     ∙ end-again place last rest chain (ends-as (place + 0) place last rest chain chain (add-zero place) refl refl refl ends) left
 again (header ∷ headers) place number octets last rest chain are upper ends left =
-    let others : List ℕ = are.1.0 in
+    let others : List ℕ = are.2.0 in
     let at : ℕ = place + length header in
     let next : ℕ = get_or header 0 0 in
     let left' : Option ℕ = first_left at next headers in
     let c : Chain = record { upper = chain.upper; start = chain.start; frag = chain.frag; left = left' } in
     let there : place + length (header ++ concat headers) ≡ at + length (concat headers) = omega (arith, length-append header (concat headers)) in
-    let later : chain_in at next 0 others ≡ Some c = again headers at next others last rest c are.1.3 upper (ends-as (place + length (header ++ concat headers)) (at + length (concat headers)) last rest chain c there refl refl refl ends) refl in
-    ap (λ (xs : List ℕ). chain_in place number 0 xs) are.1.1 ∙ header-again place number header others left' chain are.0 are.1.2 left later
+    let later : chain_in at next 0 others ≡ Some c = again headers at next others last rest c are.2.2 upper (ends-as (place + length (header ++ concat headers)) (at + length (concat headers)) last rest chain c there refl refl refl ends) refl in
+    ap (λ (xs : List ℕ). chain_in place number 0 xs) are.2.1 ∙ header-again place number header others left' chain are.0 are.1 left later
 
 pub chain-exactly : (place number : ℕ) (octets : List ℕ) (chain : Chain) → (chain_in place number 0 octets ≡ Some chain → IsChain place number octets chain) × (IsChain place number octets chain → chain_in place number 0 octets ≡ Some chain)
 chain-exactly place number octets chain =

@@ -21,13 +21,16 @@ pub record IsSizedHeader (header : List ℕ) : Type 0 where
 abbrev pub AreHeaders : ℕ → List ℕ → List (List ℕ) → ℕ → List ℕ → Type 0
 AreHeaders number octets [] last rest = (number ≡ last) × (octets ≡ rest)
 AreHeaders number octets (header ∷ headers) last rest =
-    IsTrue (is_sized number) × ((others : List ℕ) × (octets ≡ header ++ others) × IsSizedHeader header × AreHeaders (octet header 0) others headers last rest)
+    IsTrue (is_sized number)
+    × IsSizedHeader header
+    × ((others : List ℕ) × (octets ≡ header ++ others) × AreHeaders (octet header 0) others headers last rest)
 
 -- the place of the first count of segments left that is above 0, which is the fourth octet of a Routing
 -- header. The first of the headers stands at a place, behind one that names `number` as the next
 abbrev pub first_left : ℕ → ℕ → List (List ℕ) → Option ℕ
 first_left place number [] = None
-first_left place number (header ∷ headers) = option_or (route_at number (place + 3) (octet header 3)) (first_left (place + length header) (octet header 0) headers)
+first_left place number (header ∷ headers) =
+    option_or (route_at number (place + 3) (octet header 3)) (first_left (place + length header) (octet header 0) headers)
 
 -- the upper protocol stands there
 pub record EndsUpper (place last : ℕ) (chain : Chain) : Type 0 where

@@ -12,8 +12,10 @@ use crate::{Frag6, Head6};
 /// Law: what is found by reading extension headers from left to right is the chain that their grammar says
 /// (RFC 8200, section 4), and nothing is found exactly where the octets hold no chain.
 pub fn chains_are_read_by_their_grammar()
-    ensures chain { (place number : ℕ) (octets : List ℕ) (chain : ChainType) → (chain_in place number 0 octets ≡ Some chain) ↔ IsChain place number octets chain }
-    ensures none { (place number : ℕ) (octets : List ℕ) → (chain_in place number 0 octets ≡ None) ↔ ((chain : ChainType) → ¬ IsChain place number octets chain) }
+    ensures chain { (place number : ℕ) (octets : List ℕ) (chain : ChainType)
+        → (chain_in place number 0 octets ≡ Some chain) ↔ IsChain place number octets chain }
+    ensures none { (place number : ℕ) (octets : List ℕ)
+        → (chain_in place number 0 octets ≡ None) ↔ ((chain : ChainType) → ¬ IsChain place number octets chain) }
 {}
 
 /// Law: two headers are `==` exactly where they are the same in each field.

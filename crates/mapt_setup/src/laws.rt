@@ -25,9 +25,15 @@ pub fn octets_have_at_most_one_answer()
 /// prefixes overlap, and the place is that of the first edge of which it is true.
 pub fn refused_edges_are_the_first()
     ensures apart { (edges : List EdgeType) (dmr : DmrType) → (edge_fault edges dmr ≡ None) ↔ AreApart edges dmr }
-    ensures name { (edges : List EdgeType) (dmr : DmrType) (i : ℕ) → edge_fault edges dmr ≡ Some (Refused EdgeName i) → IsFirstBeside has_name_of edges i }
-    ensures overlap { (edges : List EdgeType) (dmr : DmrType) (i : ℕ) → edge_fault edges dmr ≡ Some (Refused EdgeOverlap i) → IsFirstBeside is_crowded edges i }
-    ensures over_dmr { (edges : List EdgeType) (dmr : DmrType) (i : ℕ) → edge_fault edges dmr ≡ Some (Refused EdgeOverDmr i) → IsFirstPlace (is_over dmr) edges i }
+    ensures name { (edges : List EdgeType) (dmr : DmrType) (i : ℕ)
+        → edge_fault edges dmr ≡ Some (Refused EdgeName i)
+        → IsFirstBeside has_name_of edges i }
+    ensures overlap { (edges : List EdgeType) (dmr : DmrType) (i : ℕ)
+        → edge_fault edges dmr ≡ Some (Refused EdgeOverlap i)
+        → IsFirstBeside is_crowded edges i }
+    ensures over_dmr { (edges : List EdgeType) (dmr : DmrType) (i : ℕ)
+        → edge_fault edges dmr ≡ Some (Refused EdgeOverDmr i)
+        → IsFirstPlace (is_over dmr) edges i }
 {}
 
 /// Two causes, or two faults, are `==` exactly where they are the same.
