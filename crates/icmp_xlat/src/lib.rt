@@ -1,0 +1,9 @@
+//! ICMP messages translated between IPv4 and IPv6, with the packets that errors embed (RFC 7915, sections 4.2,
+//! 4.3, 5.2 and 5.3).
+#![tactic(auto)]
+
+mod ends;
+mod mtu;
+mod table;
+
+pub use ends::Ends;
