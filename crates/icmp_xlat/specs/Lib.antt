@@ -1,2 +1,4 @@
+pub mod Icmp46
+pub mod Inner
 pub mod Mtu
 pub mod Table

@@ -3,6 +3,8 @@
 #![tactic(auto)]
 
 mod ends;
+mod icmp46;
+mod inner;
 mod mtu;
 mod table;
 

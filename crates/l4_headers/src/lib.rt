@@ -18,7 +18,7 @@ pub use equal::equal_values_are_the_same;
 use octets::{Cause, Proto};
 pub use ports::{L4, Ports};
 pub use pseudo_header::{address_sum4, address_sum6, pseudo_sum4, pseudo_sum6};
-pub use readdress::{computed_udp_sum, followed_by, readdressed_sum};
+pub use readdress::{computed_udp_sum, followed_by, followed_by_cut_tcp, readdressed_sum};
 
 /// The ports, the sum and the flags at the front of a packet's transport payload. `whole` says that the
 /// packet is no fragment; without it the payload is that of a first fragment, and only the header itself

@@ -1,6 +1,6 @@
 //! Transport headers of a packet that gets other addresses and ports (RFC 7915, sections 4.5 and 5.5).
 ghost use Rattle.std.specs.Prelude.{◌≡◌, ◌≢◌, ◌+◌, ◌-◌, ◌^◌, ◌<◌, ◌≤◌, ◌++◌, IfOk, length, drop};
-ghost use Rattle.octets.specs.declared.proto.Proto.TheVariants.{Icmp};
+ghost use Rattle.octets.specs.declared.proto.Proto.TheVariants.{Tcp, Icmp};
 ghost use Rattle.octets.specs.Field.{word, part, in_word};
 ghost use Rattle.l4_headers.specs.Transport.{header_octets, with_l4};
 ghost use Rattle.l4_headers.specs.Readdressed.{as_written, port_words, readdressed_sum, computed_udp_sum};
@@ -93,4 +93,13 @@ pub fn followed_by(
         Proto::Udp => pieces(front, payload, udp::SUM, ports, sum),
         Proto::Icmp => unreachable!(),
     }
+}
+
+/// The octets of `front`, followed by the first octets of a TCP segment, up to its sum at least, with these ports and
+/// this sum.
+pub fn followed_by_cut_tcp(front: Bytes, segment: &[u8], ports: Ports, sum: u16) -> Result<Bytes, NoMemory>
+    requires { 18 ≤ length segment.now }
+    ensures { IfOk result (λ octets. octets ≡ front ++ with_l4 Tcp segment.now ports sum) }
+{
+    pieces(front, segment, tcp::SUM, ports, sum)
 }

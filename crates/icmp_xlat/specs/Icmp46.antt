@@ -1,0 +1,86 @@
+-- An ICMPv4 packet translated to ICMPv6 (after RFC 7915, sections 4.2 and 4.3). Sums are made anew.
+use Rattle.std.specs.Prelude.{◌≡◌, ◌≢◌, ℕ, ◌+◌, ◌*◌, ◌/◌, ◌%◌, ◌^◌, ◌≤◌, ◌⊎◌, Bool, false, ◌==◌, if◌then◌else◌, List, length, take, Option, Some, None}
+use Rattle.octets.specs.declared.address.Addr6.{Addr6}
+use Rattle.octets.specs.declared.mtus.Mtus.{Mtus}
+use Rattle.ip4_packet.specs.declared.head.Head4.{Head4}
+use Rattle.ip4_packet.specs.Grammar.{payload_of, Is4}
+use Rattle.ip4_packet.specs.Causes.{HasNoCause4}
+use Rattle.ip6_packet.specs.declared.head.Head6.{Head6}
+use Rattle.ip6_packet.specs.Written.{written6}
+use Rattle.icmp_messages.specs.declared.icmp4.Icmp4.{Icmp4}
+use Rattle.icmp_messages.specs.declared.icmp6.Icmp6.{Icmp6}
+use Rattle.icmp_messages.specs.declared.inner4.Inner4.{Inner4}
+use Rattle.icmp_messages.specs.Message.{IsIcmp4, message6}
+use Rattle.icmp_messages.specs.Inner.{IsInner4}
+use Rattle.xlat46.specs.Head.{is_fragment, translated}
+use Rattle.icmp_xlat.specs.declared.ends.Ends.{Ends}
+use Rattle.icmp_xlat.specs.declared.table.Row.{Row}
+use Rattle.icmp_xlat.specs.declared.table.Rest.{Rest}
+use Rattle.icmp_xlat.specs.declared.table.Rest.TheVariants.{Query, Zero, Protocol, Mtu, Pointer}
+use Rattle.icmp_xlat.specs.Table.{table46, row_of, pointers46, pointer_of}
+use Rattle.icmp_xlat.specs.Mtu.{mtu46}
+use Rattle.icmp_xlat.specs.Inner.{inner46}
+
+-- The four octets behind the sum of an error: 0 but for the pointer (RFC 4443, section 3.4) and the MTU (section
+-- 3.2). The pointer to the IPv4 protocol field is one to the next header, octet 6. `total` is the declared length
+-- of the embedded packet; ICMPv4 has its pointer in the first of the four octets and its MTU in the last two.
+abbrev pub rest46 : Mtus → ℕ → ℕ → Rest → Option ℕ
+rest46 mtus total rest Query = None
+rest46 mtus total rest Zero = Some 0
+rest46 mtus total rest Protocol = Some 6
+rest46 mtus total rest Mtu = Some (mtu46 mtus total (rest % 2 ^ 16))
+rest46 mtus total rest Pointer = pointer_of pointers46 (rest / 2 ^ 24)
+
+-- The embedded packet of an ICMPv4 error: its body, or as many words of 32 bits as its length octet says, which is
+-- the second behind the sum, where it isn't 0. What follows is an extension, and is dropped (RFC 4884).
+abbrev pub embedded46 : Icmp4 → List ℕ
+embedded46 m =
+    let words = m.rest / 2 ^ 16 % 256 in
+    if words == 0 then m.body else take (4 * words) m.body
+
+-- a query: its identifier becomes the source port, its sequence and data stay
+abbrev pub query46 : Icmp4 → Row → Ends Addr6 → Icmp6
+query46 m row ends =
+    record { kind = row.to_kind; code = row.to_code; rest = ends.ports.src * 2 ^ 16 + m.rest % 2 ^ 16; body = m.body }
+
+-- an error about this embedded packet, of which so much is kept that the whole has at most 1280 octets, 48 of them
+-- in front of it (RFC 4443, section 2.4)
+abbrev pub error46 : Row → ℕ → Inner4 → Ends Addr6 → Icmp6
+error46 row rest inner ends =
+    record { kind = row.to_kind; code = row.to_code; rest = rest; body = take 1232 (inner46 inner ends) }
+
+-- the packet with this message: the header by the table of headers, with the length of the message
+abbrev pub with_message46 : Head4 → Icmp6 → Ends Addr6 → List ℕ
+with_message46 head m ends =
+    written6 (record (translated head ends.src ends.dst) { length = 8 + length m.body }) (message6 ends.src ends.dst m)
+
+-- the octets are an ICMPv4 packet of this header and message, that has none of the causes for which it is dropped
+-- but perhaps that it has no translation
+pub record IsMessage46 (head : Head4) (m : Icmp4) (octets : List ℕ) : Type 0 where
+  pub is : Is4 head (payload_of head octets) octets
+  pub header : HasNoCause4 octets
+  pub protocol : head.proto ≡ 1
+  pub unrouted : head.routed ≡ false
+  pub whole : is_fragment head ≡ false
+  pub message : IsIcmp4 m (payload_of head octets)
+
+-- the message has no translation: no row of the table, or no row of the table of pointers
+abbrev pub LacksPointer46 : Icmp4 → Option Row → Type 0
+LacksPointer46 m None = Unit {0}
+LacksPointer46 m (Some row) = (row.rest ≡ Pointer) × (pointer_of pointers46 (m.rest / 2 ^ 24) ≡ None)
+
+abbrev pub HasNoRow46 : Icmp4 → Type 0
+HasNoRow46 m = LacksPointer46 m (row_of table46 m.kind m.code)
+
+-- a message of this row, that is no query, embeds a packet
+abbrev pub EmbedsOne46 : Icmp4 → Option Row → Type 0
+EmbedsOne46 m None = Unit {0}
+EmbedsOne46 m (Some row) = (row.rest ≡ Query) ⊎ ((inner : Inner4) × IsInner4 inner (embedded46 m))
+
+-- what is translated: an ICMPv4 packet as above with a TTL of at least 2, whose embedded packet can be read
+pub record IsAccepted46 (octets : List ℕ) : Type 0 where
+  pub head : Head4
+  pub message : Icmp4
+  pub is : IsMessage46 head message octets
+  pub alive : 2 ≤ head.ttl
+  pub embeds : EmbedsOne46 message (row_of table46 message.kind message.code)
