@@ -1,3 +1,4 @@
 pub mod Keys
 pub mod LiveNotes
 pub mod EachRow
+pub mod WithinBounds

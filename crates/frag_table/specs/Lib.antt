@@ -3,3 +3,4 @@ pub mod State
 pub mod Frag
 pub mod Listed
 pub mod Place
+pub mod Bounds

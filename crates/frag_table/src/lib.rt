@@ -5,6 +5,7 @@
 mod answer;
 mod ask;
 mod key;
+mod laws;
 mod live;
 mod note;
 mod notes;
@@ -14,6 +15,7 @@ mod table;
 pub use answer::FragAnswer;
 pub use ask::FragAsk;
 pub use key::FragKey;
+pub use laws::notes_keep_their_bounds;
 pub use note::Note;
 pub use table::FragTable;
 
