@@ -5,3 +5,4 @@ pub mod Stages
 pub mod OneAnswer
 pub mod OneReading
 pub mod FirstEdges
+pub mod LinesFew

@@ -1,5 +1,5 @@
 -- What a configuration says is read in one way.
-use Rattle.std.proofs.Common.{◌≡◌, ◌+◌, ◌-◌, ℕ, List, codes, false, Option, Some, None, Err, refl, sym, subst, ◌∙◌}
+use Rattle.std.proofs.Common.{◌≡◌, ◌+◌, ◌-◌, ℕ, List, codes, false, Option, Some, None, Err, refl, sym, subst, ◌∙◌, Ok, Result, ap, inl, inr, length}
 use mathlib.Core.HLevel.{is_prop→PathP}
 use Rattle.std.proofs.lemmas.Bool.{false≢true, le-leb}
 use Rattle.std.proofs.lemmas.Option.{same_Some}
@@ -30,9 +30,24 @@ use Rattle.mapt_setup.specs.declared.domain.Domain.{Domain}
 use Rattle.mapt_setup.specs.declared.rule.RuleLine.{RuleLine}
 use Rattle.mapt_setup.specs.declared.edge.EdgeLine.{EdgeLine}
 use Rattle.mapt_setup.specs.Answer.{OfTable, HasNone, such}
-use Rattle.mapt_setup.specs.Keys.{text_at, table_at, tables_at, number_at, number_or, flag_or, optional_text_at}
+use Rattle.mapt_setup.specs.Keys.{has_key, text_at, table_at, tables_at, number_at, number_or, flag_or, optional_text_at}
 use Rattle.mapt_setup.specs.EdgeName.{edge_name_at}
-use Rattle.mapt_setup.specs.Spelled.{HasAddr4, HasPrefix4, HasPrefix6}
+use Rattle.mapt_setup.specs.Spelled.{HasAddr4, HasPrefix4, HasPrefix6, HasDmr}
+use Rattle.toml.specs.Data.{get_member, as_str}
+use Rattle.std.specs.Prelude.{option_and_then, is_some}
+use Rattle.s46_options.specs.declared.item.Item.{Item}
+use Rattle.s46_options.specs.declared.fault.OptionFault.{OptionFault}
+use Rattle.s46_options.specs.declared.digits.HexFault.{HexFault}
+use Rattle.s46_options.specs.declared.digits.HexFault.TheVariants.{At}
+use Rattle.s46_options.specs.Digits.{hex_of, fault_place}
+use Rattle.s46_options.specs.Faults.{fault_of}
+use Rattle.s46_options.specs.Reading.{ReadsContainer}
+use Rattle.s46_options.proofs.OneReading.{one_container as octets_read_once}
+use Rattle.mapt_setup.specs.declared.origin.Given.{Given}
+use Rattle.mapt_setup.specs.declared.origin.Origin.{Origin}
+use Rattle.mapt_setup.specs.declared.origin.Origin.TheVariants as origin
+use Rattle.mapt_setup.specs.Lines.{lines_in, dmr_in}
+use Rattle.mapt_setup.specs.Origin.{SaysItems, SaysContainer, SaysOptions, HasKeys, HasOptions, HasOrigin, given_by}
 use Rattle.mapt_setup.specs.Domain.{HasRequired, IsDomain}
 use Rattle.mapt_setup.specs.Rule.{IsRuleTable, IsRule}
 use Rattle.mapt_setup.specs.Edge.{IsEdgeTable, IsEdge}
@@ -62,13 +77,131 @@ one_prefix key ms p q h g =
 
 one_required : (ms : Members) (x y : Required) → HasRequired ms x → HasRequired ms y → x ≡ y
 one_required ms x y h g =
-    let dmr = same_dmr x.dmr y.dmr (one_prefix (codes "dmr") ms x.dmr.prefix y.dmr.prefix h.dmr g.dmr) in
     let relay = one_addr (codes "relay") ms x.relay y.relay h.relay g.relay in
     let mtus = same_mtus x.mtus y.mtus (once (number_at (codes "mtu4") 1280 9000 ms) _ _ h.mtu4 g.mtu4) (once (number_at (codes "mtu6") 1280 9000 ms) _ _ h.mtu6 g.mtu6) in
-    λ i. record { dmr = dmr i; relay = relay i; mtus = mtus i }
+    λ i. record { relay = relay i; mtus = mtus i }
 
 required_at : (ms ns : Members) (x y : Required) → ms ≡ ns → HasRequired ms x → HasRequired ns y → x ≡ y
 required_at ms ns x y same h g = one_required ns x y (subst (λ t. HasRequired t x) same h) g
+
+-- ---- where the default mapping rule and the rules come from
+
+same_given : (g k : Given) → g.dmr ≡ k.dmr → g.lines ≡ k.lines → g ≡ k
+same_given g k dmr lines = λ i. record { dmr = dmr i; lines = lines i }
+
+good_octets : List ℕ → Result (List ℕ) HexFault
+good_octets octets = Ok octets
+
+same_octets : (a b : List ℕ) → good_octets a ≡ good_octets b → a ≡ b
+unfolding good_octets
+same_octets a b h = cc
+
+bad_place : ℕ → Result (List ℕ) HexFault
+bad_place i = Err (At i)
+
+same_place : (i j : ℕ) → bad_place i ≡ bad_place j → i ≡ j
+unfolding bad_place
+same_place i j h = cc
+
+no_place : (octets : List ℕ) (i : ℕ) → good_octets octets ≡ bad_place i → ⊥
+unfolding good_octets bad_place
+no_place octets i h = cc
+
+no_fault : (f : OptionFault) → None ≡ Some f → ⊥
+no_fault f h = cc
+
+spelled_once : (text a b : List ℕ) → hex_of text ≡ good_octets a → hex_of text ≡ good_octets b → a ≡ b
+spelled_once text a b h g = same_octets a b (sym h ∙ g)
+
+one_given : (text : List ℕ) (g k : Given) → SaysContainer text g → SaysContainer text k → g ≡ k
+unfolding good_octets
+one_given text g k a b =
+    let octets = spelled_once text a.octets b.octets a.spelled b.spelled in
+    let items = octets_read_once b.octets a.items b.items (subst (λ (os : List ℕ). ReadsContainer os a.items) octets a.read) b.read in
+    let prefix = once (dmr_in b.items) g.dmr.prefix k.dmr.prefix (subst (λ (xs : List Item). dmr_in xs ≡ Some g.dmr.prefix) items a.says.dmr) b.says.dmr in
+    same_given g k (same_dmr g.dmr k.dmr prefix) (a.says.lines ∙ ap lines_in items ∙ sym b.says.lines)
+
+refused_from : SetupCause → ℕ → Origin
+refused_from cause i = origin.Refused cause i
+
+one_says : (text : List ℕ) (x y : Origin) → SaysOptions text x → SaysOptions text y → x ≡ y
+unfolding good_octets bad_place
+one_says text (origin.Keys d) y a b = absurd a
+one_says text (origin.Container g) (origin.Keys d) a b = absurd b
+one_says text (origin.Refused cause i) (origin.Keys d) a b = absurd b
+one_says text (origin.Container g) (origin.Container k) a b = ap (λ (z : Given). origin.Container z) (one_given text g k a b)
+one_says text (origin.Container g) (origin.Refused cause i) a (inl b) = absurd (no_place a.octets i (sym a.spelled ∙ b.spelled))
+one_says text (origin.Container g) (origin.Refused cause i) a (inr b) =
+    let octets = spelled_once text a.octets b.octets a.spelled b.spelled in
+    absurd (no_fault b.fault (sym a.sound ∙ ap fault_of octets ∙ b.refused))
+one_says text (origin.Refused cause i) (origin.Container g) (inl a) b = absurd (no_place b.octets i (sym b.spelled ∙ a.spelled))
+one_says text (origin.Refused cause i) (origin.Container g) (inr a) b =
+    let octets = spelled_once text b.octets a.octets b.spelled a.spelled in
+    absurd (no_fault a.fault (sym b.sound ∙ ap fault_of octets ∙ a.refused))
+one_says text (origin.Refused c i) (origin.Refused d j) (inl a) (inl b) =
+    ap (λ (z : SetupCause). origin.Refused z i) (a.cause_is ∙ sym b.cause_is) ∙ ap (λ (z : ℕ). origin.Refused d z) (same_place i j (sym a.spelled ∙ b.spelled))
+one_says text (origin.Refused c i) (origin.Refused d j) (inl a) (inr b) = absurd (no_place b.octets i (sym b.spelled ∙ a.spelled))
+one_says text (origin.Refused c i) (origin.Refused d j) (inr a) (inl b) = absurd (no_place a.octets j (sym a.spelled ∙ b.spelled))
+one_says text (origin.Refused c i) (origin.Refused d j) (inr a) (inr b) =
+    let octets = spelled_once text a.octets b.octets a.spelled b.spelled in
+    let fault = once (fault_of b.octets) a.fault b.fault (subst (λ (os : List ℕ). fault_of os ≡ Some a.fault) octets a.refused) b.refused in
+    let place : i ≡ j = a.place ∙ ap (λ (os : List ℕ). fault_place a.fault (length os)) octets ∙ ap (λ (f : OptionFault). fault_place f (length b.octets)) fault ∙ sym b.place in
+    ap (λ (z : SetupCause). origin.Refused z i) (a.cause_is ∙ sym b.cause_is) ∙ ap (λ (z : ℕ). origin.Refused d z) place
+
+one_keys : (keys : Members) (x y : Origin) → HasKeys keys x → HasKeys keys y → x ≡ y
+one_keys keys (origin.Keys d) (origin.Keys e) a b = ap (λ (z : Dmr). origin.Keys z) (same_dmr d e (one_prefix (codes "dmr") keys d.prefix e.prefix a.1 b.1))
+one_keys keys (origin.Keys d) (origin.Container k) a b = absurd b
+one_keys keys (origin.Keys d) (origin.Refused c i) a b = absurd b
+one_keys keys (origin.Container g) y a b = absurd a
+one_keys keys (origin.Refused c i) y a b = absurd a
+
+-- a container whose items say no default mapping rule says nothing
+pub no_options : (text octets : List ℕ) (items : List Item) → hex_of text ≡ Ok octets → fault_of octets ≡ None → ReadsContainer octets items → HasNone SaysItems items → (x : Origin) → SaysOptions text x → ⊥
+unfolding good_octets bad_place
+no_options text octets items spelled sound read none (origin.Keys d) h = h
+no_options text octets items spelled sound read none (origin.Container g) h =
+    let same = spelled_once text h.octets octets h.spelled spelled in
+    let all = octets_read_once octets h.items items (subst (λ (os : List ℕ). ReadsContainer os h.items) same h.read) read in
+    none g (subst (λ (xs : List Item). SaysItems xs g) all h.says)
+no_options text octets items spelled sound read none (origin.Refused cause i) (inl h) = no_place octets i (sym spelled ∙ h.spelled)
+no_options text octets items spelled sound read none (origin.Refused cause i) (inr h) =
+    let same = spelled_once text octets h.octets spelled h.spelled in
+    no_fault h.fault (sym sound ∙ ap fault_of same ∙ h.refused)
+
+-- a text that stands at a key, and no key there
+none_some : (text : List ℕ) → None ≡ Some text → ⊥
+none_some text h = cc
+
+found_not : (o : Option Data) (text : List ℕ) → option_and_then as_str o ≡ Some text → is_some o ≡ false → ⊥
+found_not None text there missing = none_some text there
+found_not (Some d) text there missing = false≢true (sym missing)
+
+keys_none : (keys : Members) (x : Origin) → HasKeys keys x → has_key (codes "options") keys ≡ false
+keys_none keys (origin.Keys d) h = h.0
+keys_none keys (origin.Container g) h = absurd h
+keys_none keys (origin.Refused c i) h = absurd h
+
+stands : (key : List ℕ) (keys : Members) (text : List ℕ) → text_at key keys ≡ Some text → has_key key keys ≡ false → ⊥
+stands key keys text there missing = found_not (get_member key keys) text there missing
+
+found_none : (o : Option Data) (text : List ℕ) → option_and_then as_str o ≡ Some text → None ≡ o → ⊥
+found_none None text there missing = none_some text there
+found_none (Some d) text there missing = cc missing
+
+-- neither options nor a default mapping rule
+pub no_origin : (document keys : Members) → None ≡ get_member (codes "options") keys → ((d : Dmr) → HasDmr (codes "dmr") keys d → ⊥) → (x : Origin) → HasOrigin document keys x → ⊥
+no_origin document keys missing none (origin.Keys d) (inl h) = none d h.1
+no_origin document keys missing none (origin.Container g) (inl h) = h
+no_origin document keys missing none (origin.Refused c i) (inl h) = h
+no_origin document keys missing none x (inr h) = found_none (get_member (codes "options") keys) h.text h.there missing
+
+one_origin : (document keys : Members) (x y : Origin) → HasOrigin document keys x → HasOrigin document keys y → x ≡ y
+one_origin document keys x y (inl a) (inl b) = one_keys keys x y a b
+one_origin document keys x y (inl a) (inr b) = absurd (stands (codes "options") keys b.text b.there (keys_none keys x a))
+one_origin document keys x y (inr a) (inl b) = absurd (stands (codes "options") keys a.text a.there (keys_none keys y b))
+one_origin document keys x y (inr a) (inr b) =
+    let text = once (text_at (codes "options") keys) a.text b.text a.there b.there in
+    one_says b.text x y (subst (λ (t : List ℕ). SaysOptions t x) text a.says) b.says
 
 pub one_domain : (document : Members) (x y : Domain) → IsDomain document x → IsDomain document y → x ≡ y
 one_domain document x y h g =
@@ -76,7 +209,8 @@ one_domain document x y h g =
     let required = required_at h.table g.table x.required y.required same h.required g.required in
     let access = once (optional_text_at (codes "access") g.table) x.access y.access (subst (λ t. optional_text_at (codes "access") t ≡ Some x.access) same h.access) g.access in
     let core = once (optional_text_at (codes "core") g.table) x.core y.core (subst (λ t. optional_text_at (codes "core") t ≡ Some x.core) same h.core) g.core in
-    λ i. record { required = required i; access = access i; core = core i }
+    let from = one_origin document g.table x.origin y.origin (subst (λ (t : Members). HasOrigin document t x.origin) same h.origin) g.origin in
+    λ i. record { required = required i; origin = from i; access = access i; core = core i }
 
 one_rule_table : (ms : Members) (x y : RuleLine) → IsRuleTable ms x → IsRuleTable ms y → x ≡ y
 one_rule_table ms x y h g =
@@ -161,9 +295,10 @@ one_document_setup document =
     then_one _ _ (the_one (IsDomain document) (Refused BadDomain 0) (one_domain document)) (λ domain.
     then_one _ _ (listed_one BadRule IsRule one_rule (tables_at (codes "rule") document)) (λ lines.
     then_one _ _ (listed_one BadEdge IsEdge one_edge (tables_at (codes "edge") document)) (λ edges.
-    then_one _ _ (each_one RuleShape HasParts BreaksShape one_shaped lines) (λ rules.
-    then_one _ _ (one_book_of rules domain.required.dmr) (λ book.
-    barring_one (edge_fault edges domain.required.dmr) _ (exactly_one _))))))
+    then_one _ _ (exactly_one (given_by domain.origin lines)) (λ given.
+    then_one _ _ (each_one RuleShape HasParts BreaksShape one_shaped given.lines) (λ rules.
+    then_one _ _ (one_book_of rules given.dmr) (λ book.
+    barring_one (edge_fault edges given.dmr) _ (exactly_one _)))))))
 
 pub one_setup : (octets : List ℕ) → IsOne (setup_of octets)
 unfolding setup_of

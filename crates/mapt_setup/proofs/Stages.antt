@@ -8,11 +8,13 @@ use Rattle.rule_book.specs.declared.book.Book.{Book}
 use Rattle.mapt_setup.specs.declared.domain.Domain.{Domain}
 use Rattle.mapt_setup.specs.declared.rule.RuleLine.{RuleLine}
 use Rattle.mapt_setup.specs.declared.edge.EdgeLine.{EdgeLine}
+use Rattle.mapt_setup.specs.declared.origin.Given.{Given}
+use Rattle.mapt_setup.specs.Origin.{given_by}
 use Rattle.mapt_setup.specs.declared.setup.Setup.{Setup}
 use Rattle.mapt_setup.specs.declared.fault.SetupCause.TheVariants.{NotToml, BadDomain, BadRule, BadEdge, RuleShape}
 use Rattle.mapt_setup.specs.declared.fault.SetupFault.{SetupFault}
 use Rattle.mapt_setup.specs.declared.fault.SetupFault.TheVariants.{Refused, NotBuilt, NoMemory}
-use Rattle.mapt_setup.specs.Answer.{◌>>=◌, Gives, barring, the, each}
+use Rattle.mapt_setup.specs.Answer.{◌>>=◌, Gives, barring, exactly, the, each}
 use Rattle.mapt_setup.specs.Keys.{tables_at}
 use Rattle.mapt_setup.specs.Domain.{IsDomain}
 use Rattle.mapt_setup.specs.Rule.{IsRule}
@@ -58,8 +60,11 @@ bars view (Some f) next e some = told view f next e some
 abbrev pub setup_same : Setup → Setup
 setup_same s = s
 
-abbrev pub lines_in : Vec RuleLine Global → List RuleLine
-lines_in v = v.items
+abbrev pub lines_same : List RuleLine → List RuleLine
+lines_same lines = lines
+
+abbrev pub given_same : Given → Given
+given_same given = given
 
 abbrev pub rules_in : Vec Rule Global → List Rule
 rules_in v = v.items
@@ -70,10 +75,10 @@ unfolding document_setup
 bad_domain document e h = stops (λ (d : Domain). d) setup_same _ _ e h
 
 pub bad_rule : (document : Members) (domain : Domain) (e : SetupFault) → IsDomain document domain
-    → Gives lines_in (Err e) (listed BadRule IsRule (tables_at (codes "rule") document))
+    → Gives lines_same (Err e) (listed BadRule IsRule (tables_at (codes "rule") document))
     → Gives setup_same (Err e) (document_setup document)
 unfolding document_setup
-bad_rule document domain e d h = goes_on setup_same _ _ domain (Err e) d (stops lines_in setup_same _ _ e h)
+bad_rule document domain e d h = goes_on setup_same _ _ domain (Err e) d (stops lines_same setup_same _ _ e h)
 
 -- what the tables of a document say
 pub record Tables (document : Members) : Type 0 where
@@ -91,32 +96,44 @@ pub bad_edge : (document : Members) (domain : Domain) (lines : List RuleLine) (e
 unfolding document_setup
 bad_edge document domain lines e d ls h = goes_on setup_same _ _ domain (Err e) d (goes_on setup_same _ _ lines (Err e) ls (stops (λ (es : List EdgeLine). es) setup_same _ _ e h))
 
-pub bad_shape : (document : Members) (t : Tables document) (e : SetupFault) → Gives rules_in (Err e) (each RuleShape HasParts BreaksShape t.lines)
+pub bad_origin : (document : Members) (t : Tables document) (e : SetupFault) → Gives given_same (Err e) (exactly (given_by t.domain.origin t.lines))
+    → Gives setup_same (Err e) (document_setup document)
+unfolding document_setup
+bad_origin document t e h =
+    goes_on setup_same _ _ t.domain (Err e) t.domain_is (goes_on setup_same _ _ t.lines (Err e) t.lines_are (goes_on setup_same _ _ t.edges (Err e) t.edges_are (stops given_same setup_same _ _ e h)))
+
+-- the tables, and the default mapping rule and the rules that they give
+pub record Whence (document : Members) : Type 0 where
+  pub tables : Tables document
+  pub given : Given
+  pub given_is : exactly (given_by tables.domain.origin tables.lines) (Ok given)
+
+pub bad_shape : (document : Members) (t : Whence document) (e : SetupFault) → Gives rules_in (Err e) (each RuleShape HasParts BreaksShape t.given.lines)
     → Gives setup_same (Err e) (document_setup document)
 unfolding document_setup
 bad_shape document t e h =
-    goes_on setup_same _ _ t.domain (Err e) t.domain_is (goes_on setup_same _ _ t.lines (Err e) t.lines_are (goes_on setup_same _ _ t.edges (Err e) t.edges_are (stops rules_in setup_same _ _ e h)))
+    goes_on setup_same _ _ t.tables.domain (Err e) t.tables.domain_is (goes_on setup_same _ _ t.tables.lines (Err e) t.tables.lines_are (goes_on setup_same _ _ t.tables.edges (Err e) t.tables.edges_are (goes_on setup_same _ _ t.given (Err e) t.given_is (stops rules_in setup_same _ _ e h))))
 
-pub bad_book : (document : Members) (t : Tables document) (rules : List Rule) (e : SetupFault) → each RuleShape HasParts BreaksShape t.lines (Ok rules)
-    → Gives (λ (b : Book). b) (Err e) (book_of rules t.domain.required.dmr)
+pub bad_book : (document : Members) (t : Whence document) (rules : List Rule) (e : SetupFault) → each RuleShape HasParts BreaksShape t.given.lines (Ok rules)
+    → Gives (λ (b : Book). b) (Err e) (book_of rules t.given.dmr)
     → Gives setup_same (Err e) (document_setup document)
 unfolding document_setup
 bad_book document t rules e rs h =
-    goes_on setup_same _ _ t.domain (Err e) t.domain_is (goes_on setup_same _ _ t.lines (Err e) t.lines_are (goes_on setup_same _ _ t.edges (Err e) t.edges_are (goes_on setup_same _ _ rules (Err e) rs (stops (λ (b : Book). b) setup_same _ _ e h))))
+    goes_on setup_same _ _ t.tables.domain (Err e) t.tables.domain_is (goes_on setup_same _ _ t.tables.lines (Err e) t.tables.lines_are (goes_on setup_same _ _ t.tables.edges (Err e) t.tables.edges_are (goes_on setup_same _ _ t.given (Err e) t.given_is (goes_on setup_same _ _ rules (Err e) rs (stops (λ (b : Book). b) setup_same _ _ e h)))))
 
-pub bad_edges : (document : Members) (t : Tables document) (rules : List Rule) (book : Book) (e : SetupFault) → each RuleShape HasParts BreaksShape t.lines (Ok rules)
-    → book_of rules t.domain.required.dmr (Ok book) → edge_fault t.edges t.domain.required.dmr ≡ Some e
+pub bad_edges : (document : Members) (t : Whence document) (rules : List Rule) (book : Book) (e : SetupFault) → each RuleShape HasParts BreaksShape t.given.lines (Ok rules)
+    → book_of rules t.given.dmr (Ok book) → edge_fault t.tables.edges t.given.dmr ≡ Some e
     → Gives setup_same (Err e) (document_setup document)
 unfolding document_setup
 bad_edges document t rules book e rs b h =
-    goes_on setup_same _ _ t.domain (Err e) t.domain_is (goes_on setup_same _ _ t.lines (Err e) t.lines_are (goes_on setup_same _ _ t.edges (Err e) t.edges_are (goes_on setup_same _ _ rules (Err e) rs (goes_on setup_same _ _ book (Err e) b (bars setup_same _ _ e h)))))
+    goes_on setup_same _ _ t.tables.domain (Err e) t.tables.domain_is (goes_on setup_same _ _ t.tables.lines (Err e) t.tables.lines_are (goes_on setup_same _ _ t.tables.edges (Err e) t.tables.edges_are (goes_on setup_same _ _ t.given (Err e) t.given_is (goes_on setup_same _ _ rules (Err e) rs (goes_on setup_same _ _ book (Err e) b (bars setup_same _ _ e h))))))
 
-pub good : (document : Members) (t : Tables document) (rules : List Rule) (book : Book) → each RuleShape HasParts BreaksShape t.lines (Ok rules)
-    → book_of rules t.domain.required.dmr (Ok book) → edge_fault t.edges t.domain.required.dmr ≡ None
-    → document_setup document (Ok (record { book = book; relay = t.domain.required.relay; mtus = t.domain.required.mtus; access = t.domain.access; core = t.domain.core; edges = t.edges }))
+pub good : (document : Members) (t : Whence document) (rules : List Rule) (book : Book) → each RuleShape HasParts BreaksShape t.given.lines (Ok rules)
+    → book_of rules t.given.dmr (Ok book) → edge_fault t.tables.edges t.given.dmr ≡ None
+    → document_setup document (Ok (record { book = book; relay = t.tables.domain.required.relay; mtus = t.tables.domain.required.mtus; access = t.tables.domain.access; core = t.tables.domain.core; edges = t.tables.edges }))
 unfolding document_setup
 good document t rules book rs b none =
-    goes_on setup_same _ _ t.domain (Ok _) t.domain_is (goes_on setup_same _ _ t.lines (Ok _) t.lines_are (goes_on setup_same _ _ t.edges (Ok _) t.edges_are (goes_on setup_same _ _ rules (Ok _) rs (goes_on setup_same _ _ book (Ok _) b (passes setup_same _ _ (Ok _) none refl)))))
+    goes_on setup_same _ _ t.tables.domain (Ok _) t.tables.domain_is (goes_on setup_same _ _ t.tables.lines (Ok _) t.tables.lines_are (goes_on setup_same _ _ t.tables.edges (Ok _) t.tables.edges_are (goes_on setup_same _ _ t.given (Ok _) t.given_is (goes_on setup_same _ _ rules (Ok _) rs (goes_on setup_same _ _ book (Ok _) b (passes setup_same _ _ (Ok _) none refl))))))
 
 -- ---- the octets
 

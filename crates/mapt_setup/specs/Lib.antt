@@ -2,6 +2,8 @@ pub mod Keys
 pub mod Answer
 pub mod Spelled
 pub mod Rule
+pub mod Lines
+pub mod Origin
 pub mod Domain
 pub mod EdgeName
 pub mod Edge

@@ -1,7 +1,6 @@
 -- What the octets of a configuration set up, or why they are refused: the stages in the order in which
 -- their causes are tested.
 use Rattle.std.specs.Prelude.{◌≡◌, ℕ, List, codes, Bool, false, ◌||◌, ◌==◌, nat_lt, length, if◌then◌else◌, Option, Some, None, Result, Ok, Err, IsUtf8}
-use Rattle.std.specs.Option.{option_map_or}
 use Rattle.toml.specs.Data.{Data, Members}
 use Rattle.toml.specs.Parse.{parse_document}
 use Rattle.rule_book.specs.declared.book.Book.{Book}
@@ -10,8 +9,9 @@ use Rattle.mapt_setup.specs.declared.fault.SetupCause.{SetupCause}
 use Rattle.mapt_setup.specs.declared.fault.SetupCause.TheVariants.{NotToml, TooMany, BadDomain, BadRule, BadEdge, RuleShape, NoGeneration}
 use Rattle.mapt_setup.specs.declared.fault.SetupFault.{SetupFault}
 use Rattle.mapt_setup.specs.declared.fault.SetupFault.TheVariants.{Refused, NotBuilt}
-use Rattle.mapt_setup.specs.Keys.{has_key, table_at, tables_at}
+use Rattle.mapt_setup.specs.Keys.{has_key, tables_at}
 use Rattle.mapt_setup.specs.Answer.{◌>>=◌, the, each, HasNone, barring, exactly}
+use Rattle.mapt_setup.specs.Origin.{given_by}
 use Rattle.mapt_setup.specs.Domain.{IsDomain}
 use Rattle.mapt_setup.specs.Rule.{IsRule}
 use Rattle.mapt_setup.specs.Edge.{IsEdge}
@@ -22,9 +22,9 @@ use Rattle.mapt_setup.specs.Crowd.{edge_fault}
 abbrev pub IsDocument : List ℕ → Members → Type 0
 IsDocument octets document = IsUtf8 octets × (parse_document octets ≡ Some document)
 
--- it has forwards, changes or options, which aren't served yet
+-- it has forwards or changes, which aren't served yet
 abbrev pub is_unbuilt : Members → Bool
-is_unbuilt document = has_key (codes "forward") document || (has_key (codes "change") document || option_map_or (has_key (codes "options")) (table_at (codes "domain") document) false)
+is_unbuilt document = has_key (codes "forward") document || has_key (codes "change") document
 
 -- a list of tables has more than 256
 abbrev pub is_long : Option (List Data) → Bool
@@ -49,9 +49,10 @@ document_setup document = do
   domain ← the (IsDomain document) (Refused BadDomain 0)
   lines ← listed BadRule IsRule (tables_at (codes "rule") document)
   edges ← listed BadEdge IsEdge (tables_at (codes "edge") document)
-  rules ← each RuleShape HasParts BreaksShape lines
-  book ← book_of rules domain.required.dmr
-  barring (edge_fault edges domain.required.dmr) (exactly (Ok (record {
+  given ← exactly (given_by domain.origin lines)
+  rules ← each RuleShape HasParts BreaksShape given.lines
+  book ← book_of rules given.dmr
+  barring (edge_fault edges given.dmr) (exactly (Ok (record {
     book = book;
     relay = domain.required.relay;
     mtus = domain.required.mtus;

@@ -2,15 +2,15 @@
 
 ghost use Rattle.std.specs.Prelude.{◌≡◌, ◌≤◌, codes, false, length, IfOk};
 ghost use Rattle.toml.specs.View.{table_view};
-ghost use Rattle.mapt_setup.specs.Keys.{has_key, tables_at};
+ghost use Rattle.mapt_setup.specs.Keys.{tables_at};
 ghost use Rattle.mapt_setup.specs.Answer.{Gives, the};
 ghost use Rattle.mapt_setup.specs.Rule.{IsRule};
 ghost use Rattle.mapt_setup.specs.Edge.{IsEdge};
 ghost use Rattle.mapt_setup.specs.Setup.{IsDocument, is_unbuilt, is_long, has_too_many, listed};
 
 use crate::edge::Edges;
-use crate::keys::{table_at, tables_at, value_at};
-use crate::rule::RuleLine;
+use crate::keys::{has_key, tables_at};
+use crate::rule::RuleLines;
 use crate::{SetupCause, SetupFault};
 use std::alloc::Global;
 use std::str;
@@ -37,24 +37,11 @@ pub fn document(alloc: Global, octets: &[u8]) -> Result<Table, SetupFault>
     }
 }
 
-/// Whether a key stands there.
-fn has_key(table: &Table, key: &str) -> bool
-    ensures { result ≡ has_key key.now (table_view table.now) }
-{
-    value_at(table, key).is_some()
-}
-
-/// Whether the document has forwards, changes or options.
+/// Whether the document has forwards or changes.
 pub fn is_unbuilt(document: &Table) -> bool
     ensures { result ≡ is_unbuilt (table_view document.now) }
 {
-    if has_key(document, "forward") || has_key(document, "change") {
-        return true;
-    }
-    match table_at(document, "domain") {
-        Some(domain) => has_key(domain, "options"),
-        None => false,
-    }
+    has_key(document, "forward") || has_key(document, "change")
 }
 
 /// Whether the list of tables at a key is too long.
@@ -75,15 +62,15 @@ pub fn has_too_many(document: &Table) -> bool
 }
 
 /// What the document's rules say.
-pub fn rule_lines(alloc: Global, document: &Table) -> Result<Vec<RuleLine>, SetupFault>
+pub fn rule_lines(alloc: Global, document: &Table) -> Result<RuleLines, SetupFault>
     requires { is_long (tables_at (codes "rule") (table_view document.now)) ≡ false }
-    ensures few { IfOk result (λ lines. length lines.items ≤ 256) }
-    ensures exact { Gives (λ lines. lines.items) result (listed SetupCause.BadRule IsRule (tables_at (codes "rule") (table_view document.now))) }
+    ensures few { IfOk result (λ lines. length lines ≤ 256) }
+    ensures exact { Gives (λ lines. lines) result (listed SetupCause.BadRule IsRule (tables_at (codes "rule") (table_view document.now))) }
 {
     let Some(values) = tables_at(document, "rule") else {
         return Err(SetupFault::Refused(SetupCause::BadRule, 0));
     };
-    RuleLine::read(alloc, values)
+    RuleLines::read(alloc, values)
 }
 
 /// What the document's edges say.

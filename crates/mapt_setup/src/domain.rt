@@ -4,9 +4,9 @@ ghost use Rattle.toml.specs.View.{table_view};
 ghost use Rattle.mapt_setup.specs.Answer.{Gives, HasNone, the};
 
 use crate::keys::{has_only, number_at, optional_text_at, table_at};
-use crate::spelled::{addr4_at, dmr_at};
+use crate::origin::Origin;
+use crate::spelled::addr4_at;
 use crate::{SetupCause, SetupFault};
-use map_rules::Dmr;
 use octets::{Addr4, Mtus, Name, NoMemory};
 use std::alloc::Global;
 use toml::Table;
@@ -15,17 +15,16 @@ use toml::Table;
 const TOP_NAMES: [&str; 3] = ["domain", "rule", "edge"];
 
 /// The keys of `[domain]`.
-const KEYS: [&str; 6] = ["dmr", "relay", "mtu4", "mtu6", "access", "core"];
+const KEYS: [&str; 7] = ["dmr", "relay", "mtu4", "mtu6", "access", "core", "options"];
 
 /// The range of an MTU, in octets.
 const LEAST_MTU: u16 = 1280;
 
 const MOST_MTU: u16 = 9000;
 
-/// The keys of `[domain]` that must stand.
+/// The keys of `[domain]` that must stand in any case.
 #[derive(Clone, Copy, Debug, PartialEq, Eq)]
 pub struct Required {
-    pub dmr: Dmr,
     pub relay: Addr4,
     pub mtus: Mtus,
 }
@@ -34,6 +33,8 @@ pub struct Required {
 #[derive(Debug, Drop)]
 pub struct Domain {
     pub required: Required,
+    /// Where the default mapping rule and the rules come from.
+    pub origin: Origin,
     /// The capture of the access network.
     pub access: Option<Name>,
     /// The capture of the core.
@@ -51,12 +52,10 @@ impl Required {
         if !has_only(table, &KEYS) {
             return None;
         }
-        let dmr = dmr_at(table, "dmr")?;
         let relay = addr4_at(table, "relay")?;
         let mtu4 = number_at(table, "mtu4", LEAST_MTU, MOST_MTU)?;
         let mtu6 = number_at(table, "mtu6", LEAST_MTU, MOST_MTU)?;
         Some(Required {
-            dmr,
             relay,
             mtus: Mtus { mtu4, mtu6 },
         })
@@ -75,11 +74,13 @@ pub fn name_of(alloc: Global, text: Option<&str>) -> Result<Option<Name>, NoMemo
 
 impl Domain {
     ghost use Rattle.mapt_setup.specs.Domain.{IsDomain};
+    ghost use Rattle.mapt_setup.specs.Origin.{HasFew};
 
-    /// What the document's domain says. `BadDomain` where a key isn't as it should be or a name at the top
-    /// is unknown.
+    /// What the document's domain says. `BadDomain` where a key isn't as it should be, a name at the top is
+    /// unknown, or `options` stand beside `dmr` or `[[rule]]` or say a default mapping rule that is none.
     pub fn read(alloc: Global, document: &Table) -> Result<Domain, SetupFault>
-        ensures { Gives (λ domain. domain) result (the (IsDomain (table_view document.now)) (SetupFault.Refused SetupCause.BadDomain 0)) }
+        ensures few { IfOk result (λ domain. HasFew domain.origin) }
+        ensures exact { Gives (λ domain. domain) result (the (IsDomain (table_view document.now)) (SetupFault.Refused SetupCause.BadDomain 0)) }
     {
         let bad = SetupFault::Refused(SetupCause::BadDomain, 0);
         if !has_only(document, &TOP_NAMES) {
@@ -91,6 +92,9 @@ impl Domain {
         let Some(required) = Required::of(table) else {
             return Err(bad);
         };
+        let Some(origin) = Origin::read(alloc, document, table)? else {
+            return Err(bad);
+        };
         let Some(access) = optional_text_at(table, "access") else {
             return Err(bad);
         };
@@ -99,6 +103,7 @@ impl Domain {
         };
         Ok(Domain {
             required,
+            origin,
             access: name_of(alloc, access)?,
             core: name_of(alloc, core)?,
         })

@@ -5,7 +5,7 @@ ghost use Rattle.std.specs.Cmp.Lexicographic.{pointwise};
 ghost use Rattle.std.specs.List.{list_any, list_all};
 ghost use Rattle.toml.specs.Data.{get_member};
 ghost use Rattle.toml.specs.View.{view, table_view};
-ghost use Rattle.mapt_setup.specs.Keys.{has_only, is_table, table_at, text_at, optional_text_at, number_in, number_at, number_or, flag_or, tables_in, tables_at};
+ghost use Rattle.mapt_setup.specs.Keys.{has_key, has_only, is_table, table_at, text_at, optional_text_at, number_in, number_at, number_or, flag_or, tables_in, tables_at};
 
 use toml::{Table, Value};
 
@@ -38,6 +38,13 @@ pub fn has_only(table: &Table, known: &[&str]) -> bool
         }
     }
     true
+}
+
+/// Whether a key stands there.
+pub fn has_key(table: &Table, key: &str) -> bool
+    ensures { result ≡ has_key key.now (table_view table.now) }
+{
+    value_at(table, key).is_some()
 }
 
 /// The text at a key.

@@ -9,6 +9,7 @@ mod edge_name;
 mod fault;
 mod keys;
 mod laws;
+mod origin;
 mod rule;
 mod setup;
 mod shapes;

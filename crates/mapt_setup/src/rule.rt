@@ -1,12 +1,13 @@
-ghost use Rattle.std.specs.Prelude.{◌≡◌, ◌≤◌, map, length, IfSome, IfNone, IfOk};
+ghost use Rattle.std.specs.Prelude.{◌≡◌, ◌≤◌, ◌++◌, ◌∷◌, [], map, length, IfSome, IfNone, IfOk, OnOk, OnErr};
 ghost use Rattle.toml.specs.View.{view};
 ghost use Rattle.mapt_setup.specs.Answer.{Gives, HasNone, each};
 
 use crate::keys::{flag_or, has_only, number_at, number_or};
 use crate::spelled::{prefix4_at, prefix6_at};
 use crate::{SetupCause, SetupFault};
-use octets::{Prefix4, Prefix6};
+use octets::{NoMemory, Prefix4, Prefix6};
 use std::alloc::Global;
+use std::marker::Model;
 use toml::Value;
 
 /// The keys of `[[rule]]`.
@@ -48,14 +49,58 @@ impl RuleLine {
             forward: flag_or(false, table, "forward")?,
         })
     }
+}
+
+/// Lines of rules in their order. A contract sees the list of them.
+#[derive(Debug, Drop)]
+pub struct RuleLines {
+    lines: Vec<RuleLine>,
+}
+
+impl Model for RuleLines {
+    ghost use Rattle.std.specs.Prelude.{List};
+    ghost use Rattle.mapt_setup.specs.declared.rule.RuleLine.{RuleLine as RuleLineType};
+
+    ghost Value = { List RuleLineType };
+
+    ghost view = { λ r. r.lines.items };
+}
+
+impl RuleLines {
+    ghost use Rattle.mapt_setup.specs.Rule.{IsRule};
+
+    /// No lines.
+    pub fn new(alloc: Global) -> RuleLines
+        ensures { result ≡ [] }
+    {
+        RuleLines {
+            lines: Vec::new(alloc),
+        }
+    }
+
+    /// Adds a line at the end.
+    pub fn push(&mut self, line: RuleLine) -> Result<(), NoMemory>
+        ensures ok { OnOk result (self.new ≡ self.old ++ line ∷ []) }
+        ensures err { OnErr result (self.new ≡ self.old) }
+    {
+        self.lines.push(line)?;
+        Ok(())
+    }
+
+    /// The lines.
+    pub fn as_slice(&self) -> &[RuleLine]
+        ensures { result.now ≡ self.now }
+    {
+        &self.lines
+    }
 
     /// What each table says, or the first where a key isn't as it should be.
-    pub(crate) fn read(alloc: Global, values: &[Value]) -> Result<Vec<RuleLine>, SetupFault>
+    pub(crate) fn read(alloc: Global, values: &[Value]) -> Result<RuleLines, SetupFault>
         requires { length values.now ≤ 256 }
-        ensures few { IfOk result (λ lines. length lines.items ≤ 256) }
-        ensures exact { Gives (λ lines. lines.items) result (each SetupCause.BadRule IsRule (HasNone IsRule) (map view values.now)) }
+        ensures few { IfOk result (λ lines. length lines ≤ 256) }
+        ensures exact { Gives (λ lines. lines) result (each SetupCause.BadRule IsRule (HasNone IsRule) (map view values.now)) }
     {
-        let mut lines = Vec::new(alloc);
+        let mut lines = RuleLines::new(alloc);
         for (i, value) in values.iter().enumerate() {
             let Some(line) = RuleLine::of(value) else {
                 return Err(SetupFault::Refused(SetupCause::BadRule, i as u32));

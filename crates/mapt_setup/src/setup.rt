@@ -41,16 +41,18 @@ impl Setup {
         let domain = Domain::read(alloc, document)?;
         let lines = rule_lines(alloc, document)?;
         let edges = edge_lines(alloc, document)?;
-        let rules = shaped(alloc, &lines)?;
-        let book = book(alloc, &rules, domain.required.dmr)?;
-        if let Some(fault) = edge_fault(edges.as_slice(), &domain.required.dmr) {
-            return Err(fault);
-        }
         let Domain {
             required,
+            origin,
             access,
             core,
         } = domain;
+        let given = origin.given(lines)?;
+        let rules = shaped(alloc, given.lines.as_slice())?;
+        let book = book(alloc, &rules, given.dmr)?;
+        if let Some(fault) = edge_fault(edges.as_slice(), &given.dmr) {
+            return Err(fault);
+        }
         Ok(Setup {
             book,
             relay: required.relay,
@@ -63,7 +65,7 @@ impl Setup {
 
     /// Reads a configuration. It is refused with its first fault: `Refused` with the first cause in the
     /// order of `SetupCause` over the whole file and its least place; `NotBuilt`, tested right after
-    /// `NotToml`, where it has the names `forward` or `change` or `options` in its domain.
+    /// `NotToml`, where it has the names `forward` or `change`.
     pub fn read(alloc: Global, octets: &[u8]) -> Result<Setup, SetupFault>
         ensures { Gives (λ setup. setup) result (setup_of octets.now) }
     {

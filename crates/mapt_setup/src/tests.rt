@@ -234,6 +234,66 @@ fn the_earlier_cause_of_edges_is_told(rt: HostRuntime) -> Result<(), Fail> {
     Ok(())
 }
 
+/// The home's domain with options in place of its default mapping rule and rules.
+const BY_OPTIONS: &str =
+    "[domain]\nrelay = \"198.51.100.1\"\nmtu4 = 1500\nmtu6 = 1500\noptions = \"005f001e0059000d011018c00002002820010db800005b00094020010db8ffff0000\"\n";
+
+const ODD: &str =
+    "[domain]\nrelay = \"198.51.100.1\"\nmtu4 = 1500\nmtu6 = 1500\noptions = \"0g1\"\n";
+
+const CUT: &str =
+    "[domain]\nrelay = \"198.51.100.1\"\nmtu4 = 1500\nmtu6 = 1500\noptions = \"005f001e0059000d011018c00002002820010db800005b00094020010db8ffff00\"\n";
+
+/// The default mapping rule has 65 bits, which is a container and none of a configuration.
+const NO_DMR: &str =
+    "[domain]\nrelay = \"198.51.100.1\"\nmtu4 = 1500\nmtu6 = 1500\noptions = \"005f001f0059000d011018c00002002820010db800005b000a4120010db8ffff000000\"\n";
+
+#[test]
+fn options_stand_for_the_default_mapping_rule_and_the_rules(rt: HostRuntime) -> Result<(), Fail> {
+    let alloc = rt.alloc();
+    let mut text = String::from_str(alloc, BY_OPTIONS)?;
+    text.push_str(EDGE)?;
+    let setup = Setup::read(alloc, text.as_bytes())?;
+    let printed = setup.book.text(alloc)?;
+    assert!(rt;
+        printed.as_slice()
+            == b"dmr 2001:db8:ffff::/64\nrule 2001:db8::/40 192.0.2.0/24 ea 16 offset 6 forward 1\n".as_slice()
+    );
+    assert!(rt; has_home_edge(&setup));
+    Ok(())
+}
+
+#[test]
+fn options_that_are_none_are_told(rt: HostRuntime) -> Result<(), Fail> {
+    let alloc = rt.alloc();
+    assert!(rt; is_refused(alloc, ODD, "", "", SetupCause::BadHex, 3)?);
+    assert!(rt; is_refused(alloc, ODD, "[[edge]]\n", "", SetupCause::BadEdge, 0)?);
+    assert!(rt; is_refused(alloc, CUT, "", "", SetupCause::BadContainer, 33)?);
+    assert!(rt; is_refused(alloc, CUT, RULE, "", SetupCause::BadDomain, 0)?);
+    assert!(rt;
+        is_refused(
+            alloc,
+            CUT,
+            "dmr = \"2001:db8:ffff::/64\"\n",
+            "",
+            SetupCause::BadDomain,
+            0
+        )?
+    );
+    assert!(rt; is_refused(alloc, NO_DMR, "[[edge]]\n", "", SetupCause::BadDomain, 0)?);
+    assert!(rt;
+        is_refused(
+            alloc,
+            BY_OPTIONS,
+            EDGE_OVER_DMR,
+            "",
+            SetupCause::EdgeOverDmr,
+            0
+        )?
+    );
+    Ok(())
+}
+
 #[test]
 fn too_many_tables_are_told(rt: HostRuntime) -> Result<(), Fail> {
     let alloc = rt.alloc();

@@ -1,8 +1,5 @@
 use Rattle.mapt_setup.proofs.Tables.{at_none}
 use Rattle.mapt_setup.proofs.domain.Required.of.Goals as goal
 
-pub returns-in_err-dmr-clause-none : goal.returns-in_err-dmr-clause-none
-returns-in_err-dmr-clause-none c = at_none c.from_residual.result (λ r h. c.in_err-dmr.ensures.none r.dmr h.dmr)
-
 pub returns-in_err-relay-clause-none : goal.returns-in_err-relay-clause-none
-returns-in_err-relay-clause-none c = at_none c.from_residual-in_err-relay.result (λ r h. c.in_err-relay.ensures.only r.relay h.relay)
+returns-in_err-relay-clause-none c = at_none c.from_residual.result (λ r h. c.in_err-relay.ensures.only r.relay h.relay)

@@ -5,7 +5,7 @@ use Rattle.toml.specs.View.{view}
 use Rattle.mapt_setup.specs.Answer.{HasNone}
 use Rattle.mapt_setup.specs.Rule.{IsRule}
 use Rattle.mapt_setup.proofs.Tables.{read-push, first_bad, few_read, take_all}
-use Rattle.mapt_setup.proofs.rule.RuleLine.read.Goals as goal
+use Rattle.mapt_setup.proofs.rule.RuleLines.read.Goals as goal
 
 pub returns-in_default-clause-exact : goal.returns-in_default-clause-exact
 returns-in_default-clause-exact c =
@@ -13,9 +13,9 @@ returns-in_default-clause-exact c =
 
 pub loop-i-preserved : goal.loop-i-preserved
 loop-i-preserved c =
-    rw c.in_ok-push.ensures.items (read-push view IsRule _ _ _ c.index-values-i.result c.in-Some.line c.loop-i-test.true c.index-values-i.is c.loop-i.invariant c.in-Some.ensures.found)
+    rw c.in_ok-push.ensures.ok (read-push view IsRule _ _ _ c.index-values-i.result c.in-Some.line c.loop-i-test.true c.index-values-i.is c.loop-i.invariant c.in-Some.ensures.found)
 
 pub returns-clause-few : goal.returns-clause-few
 returns-clause-few c =
-    let All : List Value → Type 0 = λ vs. AllZip IsRule (map view vs) c.loop-i.lines.items in
-    few_read view IsRule c.args.values.now c.loop-i.lines.items (subst All (take_all _ _ c.loop-i-test.false) c.loop-i.invariant) c.requires
+    let All : List Value → Type 0 = λ vs. AllZip IsRule (map view vs) c.loop-i.lines in
+    few_read view IsRule c.args.values.now c.loop-i.lines (subst All (take_all _ _ c.loop-i-test.false) c.loop-i.invariant) c.requires
