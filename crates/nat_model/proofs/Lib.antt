@@ -6,3 +6,5 @@ pub mod Soundness
 pub mod EachStep
 pub mod Freed
 pub mod NextGeneration
+pub mod WholeSteps
+pub mod Others

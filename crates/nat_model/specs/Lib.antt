@@ -11,3 +11,5 @@ pub mod Inside
 pub mod Stripe
 pub mod History
 pub mod Waiting
+pub mod Run
+pub mod Refusal

@@ -9,6 +9,7 @@ mod bindings;
 mod claim;
 mod entry;
 mod fragment;
+mod laws;
 mod machine;
 mod remote;
 mod stay;
@@ -21,5 +22,12 @@ pub use ask::{Ask, End4, Far, Part};
 pub use binding::Binding;
 pub use bindings::Bindings;
 pub use entry::{Entry, Mark, Who};
+pub use laws::{
+    no_port_is_left_exactly_where_all_are_bound, other_protocols_keep_their_bindings,
+    two_bindings_never_share_a_port, what_comes_in_goes_to_the_binding_with_its_port,
+};
 pub use machine::Machine;
 pub use stripe::StripeEntry;
+
+#[cfg(test)]
+mod tests;

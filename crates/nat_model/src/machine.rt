@@ -1,4 +1,4 @@
-ghost use Rattle.std.specs.Prelude.{◌≡◌, ◌<◌, ◌≤◌, ◌-◌, ◌+◌, ◌^◌, [], IfOk, OnOk, OnErr};
+ghost use Rattle.std.specs.Prelude.{◌≡◌, ◌<◌, ◌≤◌, ◌-◌, max, ◌+◌, ◌^◌, [], IfOk, OnOk, OnErr};
 ghost use Rattle.rule_book.specs.Holder.{holder_of};
 ghost use Rattle.nat_model.specs.Machine.{nat, timed, held_by, renewed};
 ghost use Rattle.nat_model.specs.State.{Generation, generation_in, state_at};
@@ -104,7 +104,7 @@ impl Machine {
         let book = Book::of_view(self.alloc, view)?;
         let (old, new) = (self.book.edge_of(self.prefix), book.edge_of(self.prefix));
         let bindings = staying(self.alloc, old, new, &self.bindings)?;
-        let clock = self.clock.max(now);
+        let clock = later(self.clock, now);
         let known = Known {
             prefix: self.prefix,
             book: &book,
@@ -129,7 +129,7 @@ impl Machine {
         ensures steps { OnOk result (self.new.steps ≡ self.old.steps + 1) }
         ensures err { OnErr result (self.new ≡ self.old) }
     {
-        let clock = self.clock.max(now);
+        let clock = later(self.clock, now);
         let known = Known {
             prefix: self.prefix,
             book: &self.book,
@@ -232,4 +232,11 @@ impl Known<'_> {
         let answer = standing.gathered(alloc, self.place, ask, &mut bindings, notes)?;
         Ok(Moved { bindings, answer })
     }
+}
+
+/// The later of two times: the clock never goes back.
+fn later(clock: u64, now: u64) -> u64
+    ensures { result ≡ max clock now }
+{
+    clock.max(now)
 }

@@ -1,0 +1,54 @@
+ghost use Rattle.std.specs.Prelude.{◌≡◌, ℕ, ◌<◌, ◌↔◌, IsTrue, Bool, List, None};
+ghost use Rattle.std.specs.List.{Any};
+ghost use Rattle.octets.specs.declared.address.Addr4.{Addr4};
+ghost use Rattle.octets.specs.declared.parcel.Parcel.{Parcel};
+ghost use Rattle.octets.specs.declared.prefix.Prefix6.{Prefix6};
+ghost use Rattle.octets.specs.declared.proto.Proto.{Proto};
+ghost use Rattle.rule_book.specs.Holder.{Holder};
+ghost use Rattle.nat_model.specs.declared.answer.Answer.TheVariants.{In};
+ghost use Rattle.nat_model.specs.declared.ask.Ask.{Ask};
+ghost use Rattle.nat_model.specs.declared.ask.Ask.TheVariants.{Inward};
+ghost use Rattle.nat_model.specs.declared.ask.Far.{Far};
+ghost use Rattle.nat_model.specs.declared.ask.Part.TheVariants.{Whole};
+ghost use Rattle.nat_model.specs.declared.binding.Binding.{Binding};
+ghost use Rattle.nat_model.specs.declared.claim.Wish.{Wish};
+ghost use Rattle.nat_model.specs.Binding.{is_of_port};
+ghost use Rattle.nat_model.specs.Claim.{claimed_port};
+ghost use Rattle.nat_model.specs.State.{NatState, Moment};
+ghost use Rattle.nat_model.specs.Machine.{nat};
+ghost use Rattle.nat_model.specs.Refusal.{proto_of, settled, of_others, IsFull};
+ghost use Rattle.nat_model.specs.Run.{Asked, state_after};
+ghost use Rattle.nat_model.specs.Sound.{IsSound};
+
+/// Law: after any asks, two bindings of one protocol never share an outside port or a host end, and the holder may
+/// claim the port of each, where this holds at the start.
+pub fn two_bindings_never_share_a_port()
+    ensures step { (prefix : Prefix6) (s : NatState) (m : Moment) (ask : Ask)
+        → IsSound prefix s
+        → IsSound prefix (nat prefix s m ask).after }
+    ensures run { (prefix : Prefix6) (place : ℕ) (s : NatState) (asks : List Asked)
+        → IsSound prefix s
+        → IsSound prefix (state_after prefix place s asks) }
+{}
+
+/// Law: a whole packet that is let in goes to the host end of an unexpired binding that has its protocol and outside
+/// port. There is no other, since two bindings never share a port.
+pub fn what_comes_in_goes_to_the_binding_with_its_port()
+    ensures { (prefix : Prefix6) (s : NatState) (m : Moment) (fault : Bool) (proto : Proto) (port flags : ℕ) (far : Far)
+        (to from peer : Addr4) (host_port : ℕ) (freed : List Parcel)
+        → (nat prefix s m (Inward fault proto port far flags Whole)).answer ≡ In to host_port from peer freed
+        → Any (λ b. IsTrue (is_of_port proto port b) × (b.host ≡ to) × (b.host_port ≡ host_port)) (settled prefix s m).bindings }
+{}
+
+/// Law: a claim finds no port exactly where bindings of the protocol have every port that the edge may claim.
+pub fn no_port_is_left_exactly_where_all_are_bound()
+    ensures { (h : Holder) (wish : Wish) (bs : List Binding)
+        → wish.port < 65536
+        → claimed_port h wish bs ≡ None ↔ IsFull h wish.proto bs }
+{}
+
+/// Law: a step leaves the bindings of other protocols alone, but for those that its time ends and its rules drop.
+pub fn other_protocols_keep_their_bindings()
+    ensures { (prefix : Prefix6) (s : NatState) (m : Moment) (ask : Ask)
+        → of_others (proto_of ask) (nat prefix s m ask).after.bindings ≡ of_others (proto_of ask) (settled prefix s m).bindings }
+{}
