@@ -235,8 +235,8 @@ impl Known<'_> {
 }
 
 /// The later of two times: the clock never goes back.
-fn later(clock: u64, now: u64) -> u64
-    ensures { result ≡ max clock now }
+fn later(first: u64, second: u64) -> u64
+    ensures { result ≡ max first second }
 {
-    clock.max(now)
+    first.max(second)
 }
