@@ -1,5 +1,5 @@
 -- The rows of the fragment machine, on notes those of which whose deadline has come aren't removed yet.
-use Rattle.std.proofs.Common.{◌≡◌, ℕ, zero, suc, ◌+◌, ◌<◌, ◌≤◌, ◌^◌, Bool, true, false, List, [], ◌∷◌, ◌++◌, length, get_or, set, Option, Some, None, Result, Ok, Err, cond, refl, sym, ap, ◌∙◌, arith}
+use Rattle.std.proofs.Common.{◌≡◌, ℕ, zero, suc, ◌<◌, ◌≤◌, Bool, true, false, List, [], ◌∷◌, ◌++◌, length, get_or, set, Option, Some, None, Result, Ok, Err, cond, refl, sym, ap, ◌∙◌, arith}
 use Rattle.std.specs.Prelude.{nat_lt, ◌==◌}
 use Rattle.std.specs.Option.{IfSome}
 use Rattle.std.specs.Result.{IfOk}
@@ -14,7 +14,7 @@ use Rattle.frag_table.specs.declared.ask.FragAsk.TheVariants.{First, Later}
 use Rattle.frag_table.specs.declared.answer.FragAnswer.TheVariants.{Noted, Known, Held, Released, Full}
 use Rattle.frag_table.specs.declared.answer.FragAnswer.{FragAnswer}
 use Rattle.frag_table.specs.State.{FragState}
-use Rattle.frag_table.specs.Frag.{FragStep, is_live, same_key, note_of, with_note, live_at, new_note, new_key, answered, released, first_step, later_step, later_again, frag_now, freed_by}
+use Rattle.frag_table.specs.Frag.{FragStep, is_live, same_key, note_of, with_note, live_at, new_note, answered, released, first_step, later_step, later_again, frag_now, freed_by}
 use Rattle.frag_table.specs.Place.{is_note, NoNote, IsPlace}
 use Rattle.frag_table.proofs.LiveNotes.{both, same_key-sound, note_of-none, note_of-found, with_note-found, filter_push}
 

@@ -1,5 +1,5 @@
 -- Each step keeps the bounds.
-use Rattle.std.proofs.Common.{◌≡◌, ℕ, suc, ◌+◌, ◌≤◌, ◌<◌, max, Bool, true, false, cond, List, [], ◌∷◌, ◌++◌, length, Option, Some, None, refl, sym, ap, ◌∙◌, arith, length-append}
+use Rattle.std.proofs.Common.{◌≡◌, ℕ, suc, ◌≤◌, max, Bool, true, false, cond, List, [], ◌∷◌, ◌++◌, length, Option, Some, None, refl, ap, arith, length-append}
 use Rattle.std.specs.Prelude.{nat_lt}
 use Rattle.std.specs.List.{AllByRecursion, filter}
 use Rattle.std.proofs.lemmas.Bool.{ltb-true}
@@ -12,8 +12,8 @@ use Rattle.frag_table.specs.declared.ask.FragAsk.TheVariants.{First, Later}
 use Rattle.frag_table.specs.declared.answer.FragAnswer.{FragAnswer}
 use Rattle.frag_table.specs.declared.answer.FragAnswer.TheVariants.{Noted, Held, Full}
 use Rattle.frag_table.specs.State.{FragState}
-use Rattle.frag_table.specs.Frag.{FragStep, is_live, aged, same_key, note_of, with_note, answered, new_note, changing, released, new_key, first_step, later_step, later_again, frag_now, frag}
-use Rattle.frag_table.specs.Bounds.{IsIdle, IsWithin, AreWithin, StepsKeepBounds}
+use Rattle.frag_table.specs.Frag.{is_live, aged, same_key, note_of, with_note, answered, new_note, changing, released, new_key, first_step, later_step, later_again, frag_now, frag}
+use Rattle.frag_table.specs.Bounds.{IsWithin, AreWithin, StepsKeepBounds}
 use Rattle.frag_table.proofs.Keys.{AllByRecursion-push}
 
 filter-within : (p : Note → Bool) (notes : List Note) → AllByRecursion IsWithin notes → (length (filter p notes) ≤ length notes) × AllByRecursion IsWithin (filter p notes)

@@ -1,6 +1,4 @@
-use Rattle.std.proofs.Common.{sym, ap, ◌∙◌, arith}
-use Rattle.frag_table.specs.Frag.{live_at}
-use Rattle.frag_table.specs.declared.answer.FragAnswer.TheVariants.{Noted}
+use Rattle.std.proofs.Common.{sym, arith}
 use Rattle.frag_table.proofs.EachRow.{first_full, first_new}
 use Rattle.frag_table.proofs.rows.first.Goals as goal
 

@@ -1,4 +1,4 @@
-use Rattle.std.proofs.Common.{sym, ap, ◌∙◌, arith}
+use Rattle.std.proofs.Common.{sym, arith}
 use Rattle.frag_table.proofs.EachRow.{later_none_full, later_new}
 use Rattle.frag_table.proofs.rows.later.Goals as goal
 

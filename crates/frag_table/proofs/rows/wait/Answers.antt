@@ -1,4 +1,4 @@
-use Rattle.std.proofs.Common.{length, sym, ap, ◌∙◌, arith}
+use Rattle.std.proofs.Common.{length, sym, ap, arith}
 use Rattle.frag_table.proofs.EachRow.{later_known, later_full, later_held}
 use Rattle.frag_table.proofs.rows.wait.Goals as goal
 

@@ -1,4 +1,4 @@
-use Rattle.std.proofs.Common.{sym, ◌∙◌, ap, length, arith}
+use Rattle.std.proofs.Common.{ap, length, arith}
 use Rattle.frag_table.proofs.Keys.{length-listed}
 use Rattle.frag_table.proofs.notes.Notes.len.Goals as goal
 

@@ -1,4 +1,4 @@
-use Rattle.std.proofs.Common.{Some, [], sym, ◌∙◌, ap, arith}
+use Rattle.std.proofs.Common.{Some, sym, ◌∙◌, ap, arith}
 use Rattle.std.specs.Option.{is_some, option_copied_mut}
 use Rattle.slab.specs.Slab.{with_value}
 use Rattle.slab.proofs.SlabLemmas.{Updates-with_value}

@@ -2,7 +2,7 @@ use Rattle.std.proofs.Common.{◌≡◌, ℕ, List, ◌∙◌, ap, sym}
 use Rattle.octets.specs.declared.parcel.Parcel.{Parcel}
 use Rattle.l4_headers.specs.declared.ports.Ports.{Ports}
 use Rattle.frag_table.specs.declared.ask.FragAsk.{FragAsk}
-use Rattle.frag_table.specs.declared.ask.FragAsk.TheVariants.{First, Later}
+use Rattle.frag_table.specs.declared.ask.FragAsk.TheVariants.{First}
 use Rattle.frag_table.specs.State.{FragState}
 use Rattle.frag_table.specs.Frag.{frag, live_at, aged, frag_now, freed_by}
 use Rattle.frag_table.proofs.EachRow.{if_ok_map, freed_later}
