@@ -1,7 +1,10 @@
 -- An ICMPv4 packet translated to ICMPv6 (after RFC 7915, sections 4.2 and 4.3). Sums are made anew.
-use Rattle.std.specs.Prelude.{◌≡◌, ◌≢◌, ℕ, ◌+◌, ◌*◌, ◌/◌, ◌%◌, ◌^◌, ◌≤◌, ◌⊎◌, Bool, false, ◌==◌, if◌then◌else◌, List, length, take, Option, Some, None}
+use Rattle.std.specs.Prelude.{◌≡◌, ◌≢◌, ℕ, ◌+◌, ◌*◌, ◌/◌, ◌%◌, ◌^◌, ◌≤◌, ◌⊎◌, Bool, false, ◌==◌, if◌then◌else◌, List, length, take, Option, Some, None, Result, Err, IfOk, IfErr, IsErr}
 use Rattle.octets.specs.declared.address.Addr6.{Addr6}
 use Rattle.octets.specs.declared.mtus.Mtus.{Mtus}
+use Rattle.octets.specs.declared.cause.Cause.TheVariants.{IcmpKind}
+use Rattle.octets.specs.declared.cause.Fault.{Fault}
+use Rattle.octets.specs.declared.cause.Fault.TheVariants.{Drop, NoMemory}
 use Rattle.ip4_packet.specs.declared.head.Head4.{Head4}
 use Rattle.ip4_packet.specs.Grammar.{payload_of, Is4}
 use Rattle.ip4_packet.specs.Causes.{HasNoCause4}
@@ -76,6 +79,18 @@ HasNoRow46 m = LacksPointer46 m (row_of table46 m.kind m.code)
 abbrev pub EmbedsOne46 : Icmp4 → Option Row → Type 0
 EmbedsOne46 m None = Unit {0}
 EmbedsOne46 m (Some row) = (row.rest ≡ Query) ⊎ ((inner : Inner4) × IsInner4 inner (embedded46 m))
+
+-- The answer to a packet of this header and message. A query and an error are answered by the packet with their
+-- translated message; IcmpKind comes exactly where a message has no translation, but for want of memory.
+pub record IsAnswer46 (mtus : Mtus) (head : Head4) (m : Icmp4) (ends : Ends Addr6) (result : Result (List ℕ) Fault) : Type 0 where
+  pub query : (row : Row) → row_of table46 m.kind m.code ≡ Some row → row.rest ≡ Query
+      → IfOk result (λ octets. octets ≡ with_message46 head (query46 m row ends) ends)
+  pub error : (row : Row) (inner : Inner4) (rest : ℕ) → row_of table46 m.kind m.code ≡ Some row → IsInner4 inner (embedded46 m)
+      → rest46 mtus inner.head.total m.rest row.rest ≡ Some rest
+      → IfOk result (λ octets. octets ≡ with_message46 head (error46 row rest inner ends) ends)
+  pub refused : result ≡ Err (Drop IcmpKind) → HasNoRow46 m
+  pub lacking : HasNoRow46 m → IsErr result
+  pub no_other : IfErr result (λ fault. (fault ≡ Drop IcmpKind) ⊎ (fault ≡ NoMemory))
 
 -- what is translated: an ICMPv4 packet as above with a TTL of at least 2, whose embedded packet can be read
 pub record IsAccepted46 (octets : List ℕ) : Type 0 where

@@ -125,7 +125,12 @@ fn inner_echo(front: Bytes, payload: &[u8], change: &Change) -> Result<Bytes, No
 }
 
 /// The octets of `front`, followed by the translated beginning of an embedded payload.
-fn inner_payload(front: Bytes, proto: Proto, payload: &[u8], change: &Change) -> Result<Bytes, NoMemory>
+fn inner_payload(
+    front: Bytes,
+    proto: Proto,
+    payload: &[u8],
+    change: &Change,
+) -> Result<Bytes, NoMemory>
     requires long { 8 ≤ length payload.now }
     requires before { change.now.before ≤ 2 ^ 32 }
     requires after { change.now.after ≤ 2 ^ 32 }

@@ -3,9 +3,10 @@
 #![tactic(auto)]
 
 mod ends;
-mod icmp46;
 mod inner;
 mod mtu;
 mod table;
+mod to_icmp6;
 
 pub use ends::Ends;
+pub use to_icmp6::icmp46;

@@ -97,7 +97,12 @@ pub fn followed_by(
 
 /// The octets of `front`, followed by the first octets of a TCP segment, up to its sum at least, with these ports and
 /// this sum.
-pub fn followed_by_cut_tcp(front: Bytes, segment: &[u8], ports: Ports, sum: u16) -> Result<Bytes, NoMemory>
+pub fn followed_by_cut_tcp(
+    front: Bytes,
+    segment: &[u8],
+    ports: Ports,
+    sum: u16,
+) -> Result<Bytes, NoMemory>
     requires { 18 ≤ length segment.now }
     ensures { IfOk result (λ octets. octets ≡ front ++ with_l4 Tcp segment.now ports sum) }
 {

@@ -2,17 +2,20 @@
 ghost use Rattle.std.specs.Prelude.{◌≡◌, ◌+◌, ◌<◌, ◌≤◌, ◌⊎◌, ℕ, false, length, take, Some, IfOk, IfErr, IsErr, Err};
 ghost use Rattle.octets.specs.declared.cause.Cause.TheVariants.{IcmpKind};
 ghost use Rattle.octets.specs.declared.cause.Fault.TheVariants.{Drop as Dropped, NoMemory as WantsMemory};
+ghost use Rattle.ip4_packet.specs.declared.head.Head4.{Head4 as Header};
+ghost use Rattle.icmp_messages.specs.declared.icmp4.Icmp4.{Icmp4 as Message};
 ghost use Rattle.icmp_messages.specs.declared.inner4.Inner4.{Inner4 as Inner};
+ghost use Rattle.icmp_xlat.specs.Table.{row_of, table46};
 ghost use Rattle.icmp_messages.specs.Inner.{IsInner4};
 ghost use Rattle.xlat46.specs.Head.{is_fragment};
 ghost use Rattle.icmp_xlat.specs.declared.table.Rest.TheVariants.{Query as QueryRest};
 ghost use Rattle.icmp_xlat.specs.Inner.{Stands4};
-ghost use Rattle.icmp_xlat.specs.Icmp46.{rest46, embedded46, query46, error46, with_message46, LacksPointer46, EmbedsOne46};
+ghost use Rattle.icmp_xlat.specs.Icmp46.{rest46, embedded46, query46, error46, with_message46, LacksPointer46, EmbedsOne46, IsMessage46, IsAnswer46, IsAccepted46};
 
 use crate::Ends;
 use crate::inner::inner46;
 use crate::mtu::mtu46;
-use crate::table::{Rest, Row, pointer46};
+use crate::table::{Rest, Row, pointer46, row46};
 use icmp_messages::{Icmp4, Icmp6, Inner4, read_inner4};
 use ip4_packet::Head4;
 use octets::{Addr6, Bytes, Cause, Fault, Mtus, NoMemory};
@@ -53,7 +56,8 @@ fn rest46(mtus: Mtus, total: u16, rest: u32, kind: Rest) -> Option<u32>
 
 /// A query with its new identifier.
 fn query46(alloc: Global, message: &Icmp4, row: Row, ends: &Ends<Addr6>) -> Result<Icmp6, NoMemory>
-    ensures { IfOk result (λ m. m ≡ query46 message.now row ends.now) }
+    ensures value { IfOk result (λ m. m ≡ query46 message.now row ends.now) }
+    ensures fits { IfOk result (λ m. length m.body ≡ length message.now.body) }
 {
     Ok(Icmp6 {
         kind: row.to_kind,
@@ -65,15 +69,23 @@ fn query46(alloc: Global, message: &Icmp4, row: Row, ends: &Ends<Addr6>) -> Resu
 
 /// The first octets of these, so many at most.
 fn first_octets(octets: &[u8], most: usize) -> &[u8]
-    ensures { result.now ≡ take most octets.now }
+    ensures value { result.now ≡ take most octets.now }
+    ensures fits { length result.now ≤ most }
 {
     &octets[..octets.len().min(most)]
 }
 
 /// An error with these four octets behind its sum, about this embedded packet.
-fn error46(alloc: Global, row: Row, rest: u32, inner: &Inner4, ends: &Ends<Addr6>) -> Result<Icmp6, NoMemory>
+fn error46(
+    alloc: Global,
+    row: Row,
+    rest: u32,
+    inner: &Inner4,
+    ends: &Ends<Addr6>,
+) -> Result<Icmp6, NoMemory>
     requires { Stands4 inner.now }
-    ensures { IfOk result (λ m. m ≡ error46 row rest inner.now ends.now) }
+    ensures value { IfOk result (λ m. m ≡ error46 row rest inner.now ends.now) }
+    ensures fits { IfOk result (λ m. length m.body ≤ 1232) }
 {
     let octets = inner46(alloc, inner, ends)?;
     let mut body = Bytes::new(alloc);
@@ -87,7 +99,12 @@ fn error46(alloc: Global, row: Row, rest: u32, inner: &Inner4, ends: &Ends<Addr6
 }
 
 /// The packet with this message in place of its own.
-fn with_message46(alloc: Global, head: &Head4, message: &Icmp6, ends: &Ends<Addr6>) -> Result<Bytes, NoMemory>
+fn with_message46(
+    alloc: Global,
+    head: &Head4,
+    message: &Icmp6,
+    ends: &Ends<Addr6>,
+) -> Result<Bytes, NoMemory>
     requires alive { 1 ≤ head.now.ttl }
     requires lengths { head.now.head_len ≤ head.now.total }
     requires protocol { head.now.proto ≡ 1 }
@@ -102,13 +119,21 @@ fn with_message46(alloc: Global, head: &Head4, message: &Icmp6, ends: &Ends<Addr
 }
 
 /// The message translated. `IcmpKind` exactly for a pointer without a row.
-fn translated46(alloc: Global, mtus: Mtus, message: &Icmp4, row: Row, ends: &Ends<Addr6>) -> Result<Icmp6, Fault>
+fn translated46(
+    alloc: Global,
+    mtus: Mtus,
+    message: &Icmp4,
+    row: Row,
+    ends: &Ends<Addr6>,
+) -> Result<Icmp6, Fault>
     requires embeds { EmbedsOne46 message.now (Some row) }
+    requires fits { length message.now.body ≤ 65515 }
     ensures query { row.rest ≡ QueryRest → IfOk result (λ m. m ≡ query46 message.now row ends.now) }
     ensures error { (inner : Inner) (rest : ℕ) → IsInner4 inner (embedded46 message.now) → rest46 mtus inner.head.total message.now.rest row.rest ≡ Some rest → IfOk result (λ m. m ≡ error46 row rest inner ends.now) }
     ensures refused { result ≡ Err (Dropped IcmpKind) → LacksPointer46 message.now (Some row) }
     ensures lacking { LacksPointer46 message.now (Some row) → IsErr result }
     ensures no_other { IfErr result (λ f. (f ≡ Dropped IcmpKind) ⊎ (f ≡ WantsMemory)) }
+    ensures short { IfOk result (λ m. length m.body ≤ 65515) }
 {
     if matches!(row.rest, Rest::Query) {
         return Ok(query46(alloc, message, row, ends)?);
@@ -118,4 +143,44 @@ fn translated46(alloc: Global, mtus: Mtus, message: &Icmp4, row: Row, ends: &End
         return Err(Fault::Drop(Cause::IcmpKind));
     };
     Ok(error46(alloc, row, rest, &inner, ends)?)
+}
+
+/// The packet of this header with the translated message.
+fn answer46(
+    alloc: Global,
+    mtus: Mtus,
+    head: &Head4,
+    message: &Icmp4,
+    ends: &Ends<Addr6>,
+) -> Result<Bytes, Fault>
+    requires alive { 1 ≤ head.now.ttl }
+    requires lengths { head.now.head_len ≤ head.now.total }
+    requires protocol { head.now.proto ≡ 1 }
+    requires whole { is_fragment head.now ≡ false }
+    requires fits { length message.now.body ≤ 65515 }
+    requires embeds { EmbedsOne46 message.now (row_of table46 message.now.kind message.now.code) }
+    ensures { IsAnswer46 mtus head.now message.now ends.now result }
+{
+    let Some(row) = row46(message.kind, message.code) else {
+        return Err(Fault::Drop(Cause::IcmpKind));
+    };
+    let translated = translated46(alloc, mtus, message, row, ends)?;
+    Ok(with_message46(alloc, head, &translated, ends)?)
+}
+
+/// The ICMPv4 packet translated to ICMPv6, with these addresses and ports (after RFC 7915, sections 4.2 and 4.3). A
+/// query gets the source port as its identifier. An error gets both ports in its embedded packet, whose TTL stays,
+/// and has at most 1280 octets; its extension is dropped. All ICMP sums are made anew.
+///
+/// Refuses as `IcmpKind`, and as nothing else but for want of memory, exactly what has no row in the tables of types,
+/// codes and pointers. The packet has no other cause for which it is dropped, and a TTL of at least 2.
+pub fn icmp46(alloc: Global, mtus: Mtus, packet: &[u8], ends: &Ends<Addr6>) -> Result<Bytes, Fault>
+    requires { IsAccepted46 packet.now }
+    ensures { (head : Header) (m : Message) → IsMessage46 head m packet.now → IsAnswer46 mtus head m ends.now result }
+{
+    let Ok(head) = Head4::read(packet) else {
+        unreachable!();
+    };
+    let message = Icmp4::read(alloc, head.payload(packet))?;
+    answer46(alloc, mtus, &head, &message, ends)
 }

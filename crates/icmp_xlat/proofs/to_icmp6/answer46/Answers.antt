@@ -1,0 +1,38 @@
+use Rattle.std.proofs.Common.{◌≡◌, ◌≢◌, ℕ, sym, subst, ◌∙◌, List, Some, None, Ok, Err, ap}
+use Rattle.std.specs.Prelude.{Option, IfOk}
+use Rattle.octets.specs.declared.cause.Fault.{Fault}
+use Rattle.icmp_messages.specs.declared.icmp6.Icmp6.{Icmp6}
+use Rattle.icmp_messages.specs.declared.inner4.Inner4.{Inner4}
+use Rattle.icmp_messages.specs.Inner.{IsInner4}
+use Rattle.icmp_xlat.specs.declared.table.Row.{Row}
+use Rattle.icmp_xlat.specs.declared.table.Rest.TheVariants.{Query}
+use Rattle.icmp_xlat.specs.Table.{row_of, table46}
+use Rattle.icmp_xlat.specs.Icmp46.{rest46, embedded46, query46, error46, with_message46, LacksPointer46, HasNoRow46}
+use Rattle.icmp_xlat.proofs.to_icmp6.answer46.Goals as goal
+
+-- the rows of one list are one
+same_row : (found : Option Row) (one other : Row) → found ≡ Some one → found ≡ Some other → other ≡ one
+same_row found one other a b = cc
+
+pub returns : goal.returns
+returns c =
+    let row = c.in-Some.row in
+    let is_row : row_of table46 c.args.message.now.kind c.args.message.now.code ≡ Some row = sym c.row46.ensures ∙ c.in-Some.is in
+    let made = c.in_ok-translated.ensures in
+    let head = c.args.head.now in
+    let ends = c.args.ends.now in
+    let written : c.in_ok-with_message46.field-0 ≡ with_message46 head c.in_ok-translated.translated ends = c.in_ok-with_message46.ensures in
+    record {
+      query = λ r is query.
+          let same = same_row _ row r is_row is in
+          written ∙ ap (λ (m : Icmp6). with_message46 head m ends) (made.query (rw same at query) ∙ ap (λ (x : Row). query46 c.args.message.now x ends) (sym same));
+      error = λ r inner rest is embedded found.
+          let same = same_row _ row r is_row is in
+          written ∙ ap (λ (m : Icmp6). with_message46 head m ends) (made.error inner rest embedded (rw same at found) ∙ ap (λ (x : Row). error46 x rest inner ends) (sym same));
+      refused = λ h. absurd (never _ _ h);
+      lacking = λ lacks. made.lacking (rw is_row at lacks);
+      no_other = tt;
+    }
+  where
+    never : (o : List ℕ) (f : Fault) → ◌≡◌ {A = Rattle.std.specs.Prelude.Result (List ℕ) Fault} (Ok o) (Err f) → ⊥
+    never o f h = cc
