@@ -28,3 +28,6 @@ pub use laws::{
 };
 pub use machine::Machine;
 pub use stripe::StripeEntry;
+
+#[cfg(test)]
+mod tests;
