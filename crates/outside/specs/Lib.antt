@@ -1,3 +1,4 @@
 pub mod Files
 pub mod InMemory
+pub mod Seen
 pub mod Text

@@ -41,7 +41,7 @@ impl fmt::Display for FileId {
 
 /// Whether a call read or wrote.
 #[derive(Clone, Copy, Debug, PartialEq, Eq, Hash)]
-pub enum Way {
+pub enum Operation {
     Read,
     Write,
 }
@@ -50,7 +50,7 @@ pub enum Way {
 #[derive(Clone, Copy, Debug, PartialEq, Eq, Hash)]
 pub struct Failure {
     pub file: FileId,
-    pub way: Way,
+    pub operation: Operation,
 }
 
 /// Why a call of the outside didn't answer Ok.

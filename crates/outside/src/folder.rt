@@ -1,10 +1,9 @@
-ghost use Rattle.std.specs.Prelude.{◌≡◌, ◌≤◌, ℕ, length, Option, Some, IfOk, OnOk, IsErrOf};
-ghost use Rattle.octets.specs.Count.{Rose, counted};
+ghost use Rattle.std.specs.Prelude.{◌≤◌, ℕ, length, Option, IfOk};
 ghost use Rattle.outside.specs.declared.file_id.Failure.{Failure as Failed};
-ghost use Rattle.outside.specs.declared.file_id.Way.TheVariants.{Read, Write};
-ghost use Rattle.outside.specs.Files.{Files, IsPiece, SameBut, put_if_told};
+ghost use Rattle.outside.specs.Files.{Files};
+ghost use Rattle.outside.specs.Seen.{folder_seen, ReadEnds, WriteEnds};
 
-use crate::file_id::{FileId, OutFault, Way};
+use crate::file_id::{FileId, OutFault};
 use std::alloc::Global;
 
 /// A folder of files. `file` says which file of the command is meant, and is told back in `last`; the
@@ -13,7 +12,7 @@ pub trait Folder {
     /// What each file holds, or `None` where the folder doesn't tell.
     ghost files: { Self → Option Files };
 
-    /// How many octets were handed out so far.
+    /// How many octets were handed out so far, by reads that answered Ok.
     ghost handed: { Self → ℕ };
 
     /// How many calls failed so far.
@@ -24,6 +23,8 @@ pub trait Folder {
 
     /// Reads octets of a file from an offset on, at most the buffer's length. Fewer may come than there
     /// are, but none only at the end of the file. A file that isn't there has no octets, or fails.
+    ///
+    /// `Failed` comes only where the count of faults rose. `NoMemory` changed nothing.
     fn read_at(
         &mut self,
         alloc: Global,
@@ -33,20 +34,11 @@ pub trait Folder {
         buf: &mut [u8],
     ) -> Result<usize, OutFault>
         ensures within { IfOk result (λ n. n ≤ length buf.old) }
-        ensures piece { IfOk result (λ n. IsPiece (files self.old) name.now offset n buf.new) }
-        ensures files { files self.new ≡ files self.old }
-        ensures counted { IfOk result (λ n. handed self.new ≡ counted (handed self.old) n) }
-        ensures ok_faults { OnOk result (faults self.new ≡ faults self.old) }
-        ensures ok_last { OnOk result (last self.new ≡ last self.old) }
-        ensures failed { IsErrOf result OutFault.Failed → Rose (faults self.old) (faults self.new) }
-        ensures failed_last { IsErrOf result OutFault.Failed → last self.new ≡ Some (record { file = file; way = Way.Read }) }
-        ensures handed_rises { handed self.old ≤ handed self.new }
-        ensures faults_rise { faults self.old ≤ faults self.new }
-        ensures no_memory_handed { IsErrOf result OutFault.NoMemory → handed self.new ≡ handed self.old }
-        ensures no_memory_faults { IsErrOf result OutFault.NoMemory → faults self.new ≡ faults self.old }
-        ensures no_memory_last { IsErrOf result OutFault.NoMemory → last self.new ≡ last self.old };
+        ensures ends { ReadEnds (folder_seen files handed faults last self.old) (folder_seen files handed faults last self.new) file name.now offset buf.new result };
 
     /// Makes the named file hold exactly these octets. After a failure that file may hold anything.
+    ///
+    /// `Failed` comes only where the count of faults rose. `NoMemory` changed nothing.
     fn write(
         &mut self,
         alloc: Global,
@@ -54,16 +46,5 @@ pub trait Folder {
         name: &str,
         bytes: &[u8],
     ) -> Result<(), OutFault>
-        ensures written { OnOk result (files self.new ≡ put_if_told (files self.old) name.now bytes.now) }
-        ensures ok_faults { OnOk result (faults self.new ≡ faults self.old) }
-        ensures ok_last { OnOk result (last self.new ≡ last self.old) }
-        ensures failed { IsErrOf result OutFault.Failed → Rose (faults self.old) (faults self.new) }
-        ensures failed_last { IsErrOf result OutFault.Failed → last self.new ≡ Some (record { file = file; way = Way.Write }) }
-        ensures failed_others { IsErrOf result OutFault.Failed → SameBut name.now (files self.old) (files self.new) }
-        ensures handed_rises { handed self.old ≤ handed self.new }
-        ensures faults_rise { faults self.old ≤ faults self.new }
-        ensures no_memory_files { IsErrOf result OutFault.NoMemory → files self.new ≡ files self.old }
-        ensures no_memory_handed { IsErrOf result OutFault.NoMemory → handed self.new ≡ handed self.old }
-        ensures no_memory_faults { IsErrOf result OutFault.NoMemory → faults self.new ≡ faults self.old }
-        ensures no_memory_last { IsErrOf result OutFault.NoMemory → last self.new ≡ last self.old };
+        ensures ends { WriteEnds (folder_seen files handed faults last self.old) (folder_seen files handed faults last self.new) file name.now bytes.now result };
 }

@@ -15,7 +15,7 @@ mod store;
 mod sure_folder;
 mod sure_sink;
 
-pub use file_id::{Failure, FileId, OutFault, Way};
+pub use file_id::{Failure, FileId, Operation, OutFault};
 pub use folder::Folder;
 pub use gate::{FreeGate, Gate};
 pub use memory_folder::MemFolder;

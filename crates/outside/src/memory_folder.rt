@@ -1,9 +1,10 @@
-ghost use Rattle.std.specs.Prelude.{◌≡◌, Some, None, OnOk, OnErr};
+ghost use Rattle.std.specs.Prelude.{◌≡◌, ◌≤◌, ◌↔◌, length, Contains, Some, None, OnOk, OnErr, IfOk, IsErrOf};
 ghost use Rattle.std.specs.FinMap as map;
 ghost use Rattle.std.specs.Option.{option_copied};
+ghost use Rattle.octets.specs.Count.{counted};
 ghost use Rattle.outside.specs.Files.{with_file};
 
-use crate::file_id::{Failure, FileId, OutFault, Way};
+use crate::file_id::{Failure, FileId, Operation, OutFault};
 use crate::folder::Folder;
 use crate::store::{Store, copy_piece};
 use octets::NoMemory;
@@ -25,11 +26,11 @@ pub struct MemFolder {
 }
 
 impl MemFolder {
-    ghost use Rattle.outside.specs.InMemory.{memory_files, with_memory_files, failing_reads, failing_writes, next_read, next_write};
+    ghost use Rattle.outside.specs.InMemory.{memory_files, memory_seen, with_memory_files, failing_reads, failing_writes, next_read, next_write};
 
     /// A folder without files, in which these reads and writes fail.
     pub fn new(alloc: Global, reads: Vec<u64>, writes: Vec<u64>) -> MemFolder
-        ensures files { memory_files result ≡ map.empty }
+        ensures seen { memory_seen result ≡ record { files = Some map.empty; handed = 0; faults = 0; last = None } }
         ensures failing_reads { failing_reads result ≡ reads.items }
         ensures failing_writes { failing_writes result ≡ writes.items }
         ensures next { (next_read result ≡ 0) × (next_write result ≡ 0) }
@@ -45,6 +46,16 @@ impl MemFolder {
             faults: 0,
             last: None,
         }
+    }
+
+    /// Counts a call that failed.
+    fn fail(&mut self, file: FileId, operation: Operation) -> OutFault
+        ensures counted { self.new ≡ record self.old { faults = counted self.old.faults 1; last = Some (record { file = file; operation = operation }) } }
+        ensures failed { result ≡ OutFault.Failed }
+    {
+        self.faults = self.faults.saturating_add(1);
+        self.last = Some(Failure { file, operation });
+        OutFault::Failed
     }
 
     /// Sets a file. It counts as no call.
@@ -64,7 +75,9 @@ impl MemFolder {
 }
 
 impl Folder for MemFolder {
-    ghost use Rattle.std.specs.Prelude.{Some, None};
+    ghost use Rattle.std.specs.Prelude.{◌≡◌, ◌≤◌, ◌↔◌, length, Contains, Some, OnErr, IfOk, IsErrOf};
+    ghost use Rattle.outside.specs.Seen.{ReadEnds, WriteEnds};
+    ghost use Rattle.outside.specs.InMemory.{memory_seen, failing_writes, next_write, FailsToRead, CountsRead, CountsWrite};
 
     ghost files = { λ s. Some s.store };
 
@@ -81,22 +94,28 @@ impl Folder for MemFolder {
         name: &str,
         offset: u64,
         buf: &mut [u8],
-    ) -> Result<usize, OutFault> {
+    ) -> Result<usize, OutFault>
+        ensures within { IfOk result (λ n. n ≤ length buf.old) }
+        ensures ends { ReadEnds (memory_seen self.old) (memory_seen self.new) file name.now offset buf.new result }
+        // It fails exactly where its number is listed or the file isn't there, and then leaves the buffer.
+        ensures fails { IsErrOf result OutFault.Failed ↔ FailsToRead self.old name.now }
+        ensures lacks_nothing { IsErrOf result OutFault.NoMemory → ⊥ }
+        ensures unread { OnErr result (buf.new ≡ buf.old) }
+        ensures counts { CountsRead self.old self.new }
+    {
         let call = self.reads;
         self.reads = call.saturating_add(1);
-        if !self.failing_reads.contains(&call) {
-            if let Some(content) = self.store.file(name) {
+        if self.failing_reads.contains(&call) {
+            return Err(self.fail(file, Operation::Read));
+        }
+        match self.store.file(name) {
+            Some(content) => {
                 let count = copy_piece(content, offset, buf);
                 self.handed = self.handed.saturating_add(count as u64);
-                return Ok(count);
+                Ok(count)
             }
+            None => Err(self.fail(file, Operation::Read)),
         }
-        self.faults = self.faults.saturating_add(1);
-        self.last = Some(Failure {
-            file,
-            way: Way::Read,
-        });
-        Err(OutFault::Failed)
     }
 
     fn write(
@@ -105,16 +124,17 @@ impl Folder for MemFolder {
         file: FileId,
         name: &str,
         bytes: &[u8],
-    ) -> Result<(), OutFault> {
+    ) -> Result<(), OutFault>
+        ensures ends { WriteEnds (memory_seen self.old) (memory_seen self.new) file name.now bytes.now result }
+        // It fails exactly where its number is listed, and then leaves all files.
+        ensures fails { IsErrOf result OutFault.Failed ↔ Contains (failing_writes self.old) (next_write self.old) }
+        ensures unwritten { OnErr result ((memory_seen self.new).files ≡ (memory_seen self.old).files) }
+        ensures counts { CountsWrite self.old self.new }
+    {
         let call = self.writes;
         self.writes = call.saturating_add(1);
         if self.failing_writes.contains(&call) {
-            self.faults = self.faults.saturating_add(1);
-            self.last = Some(Failure {
-                file,
-                way: Way::Write,
-            });
-            return Err(OutFault::Failed);
+            return Err(self.fail(file, Operation::Write));
         }
         self.store.put(alloc, name, bytes)?;
         Ok(())

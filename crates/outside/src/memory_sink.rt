@@ -1,4 +1,4 @@
-ghost use Rattle.std.specs.Prelude.{◌≡◌, [], ◌++◌, Some};
+ghost use Rattle.std.specs.Prelude.{◌≡◌, [], Some};
 
 use crate::file_id::OutFault;
 use crate::sink::Sink;
@@ -15,11 +15,11 @@ pub struct MemSink {
 }
 
 impl MemSink {
-    ghost use Rattle.outside.specs.InMemory.{memory_text, failing_puts, next_put};
+    ghost use Rattle.outside.specs.InMemory.{memory_text, memory_sink_seen, failing_puts, next_put};
 
     /// A sink without text, in which these calls fail.
     pub fn new(alloc: Global, puts: Vec<u64>) -> MemSink
-        ensures text { memory_text result ≡ [] }
+        ensures seen { memory_sink_seen result ≡ record { written = Some []; faults = 0 } }
         ensures failing { failing_puts result ≡ puts.items }
         ensures next { next_put result ≡ 0 }
     {
@@ -40,13 +40,21 @@ impl MemSink {
 }
 
 impl Sink for MemSink {
-    ghost use Rattle.std.specs.Prelude.{Some};
+    ghost use Rattle.std.specs.Prelude.{◌≡◌, ◌↔◌, Contains, Some, OnErr, IsErrOf};
+    ghost use Rattle.outside.specs.Seen.{PutEnds};
+    ghost use Rattle.outside.specs.InMemory.{memory_text, memory_sink_seen, failing_puts, next_put, CountsPut};
 
     ghost written = { λ s. Some s.text };
 
     ghost faults = { λ s. s.faults };
 
-    fn put(&mut self, _alloc: Global, bytes: &[u8]) -> Result<(), OutFault> {
+    fn put(&mut self, _alloc: Global, bytes: &[u8]) -> Result<(), OutFault>
+        ensures ends { PutEnds (memory_sink_seen self.old) (memory_sink_seen self.new) bytes.now result }
+        // It fails exactly where its number is listed, and then adds nothing.
+        ensures fails { IsErrOf result OutFault.Failed ↔ Contains (failing_puts self.old) (next_put self.old) }
+        ensures unwritten { OnErr result (memory_text self.new ≡ memory_text self.old) }
+        ensures counts { CountsPut self.old self.new }
+    {
         let call = self.puts;
         self.puts = call.saturating_add(1);
         if self.failing_puts.contains(&call) {

@@ -1,16 +1,29 @@
-ghost use Rattle.std.specs.Prelude.{None, ◌≤◌, length, IfOk};
+ghost use Rattle.std.specs.Prelude.{◌≡◌, ◌≤◌, length, IfOk};
 
-use crate::file_id::{Failure, FileId, OutFault, Way};
+use crate::file_id::{Failure, FileId, Operation, OutFault};
 use crate::folder::Folder;
+use octets::Name;
 use std::alloc::Global;
 use std::fs;
 use std::io::{self, Read, Seek, SeekFrom, Write};
 use std::rt::Files;
 
+/// A file that was read up to a place, and stays open there.
+#[derive(Drop)]
+struct Opened<R: Files> {
+    name: Name,
+    at: u64,
+    file: R::File,
+}
+
 /// The files of the operating system. It tells no content: what a real file holds is outside of any proof.
+///
+/// The file that was read last stays open for its next piece. So a pipe can be read, and a file that is
+/// replaced meanwhile is read as it was.
 #[derive(Drop)]
 pub struct RealFolder<R: Files + Drop> {
     rt: R,
+    open: Option<Opened<R>>,
     handed: u64,
     faults: u64,
     last: Option<Failure>,
@@ -21,19 +34,59 @@ impl<R: Files + Drop> RealFolder<R> {
     pub fn new(rt: R) -> Self {
         RealFolder {
             rt,
+            open: None,
             handed: 0,
             faults: 0,
             last: None,
         }
     }
+
+    /// Reads a piece of the named file, which stays open behind it.
+    fn read_piece(
+        &mut self,
+        alloc: Global,
+        name: &str,
+        offset: u64,
+        buf: &mut [u8],
+    ) -> io::Result<usize>
+        ensures within { IfOk result (λ n. n ≤ length buf.old) }
+        ensures counts { (self.new.handed ≡ self.old.handed) × (self.new.faults ≡ self.old.faults) × (self.new.last ≡ self.old.last) }
+    {
+        let mut open = self.opened(alloc, name, offset)?;
+        let count = fill(&mut open.file, buf)?;
+        open.at = open.at.saturating_add(count as u64);
+        self.open = Some(open);
+        Ok(count)
+    }
+
+    /// The named file, open at this place: the one that was read last, or one that is opened now.
+    fn opened(&mut self, alloc: Global, name: &str, offset: u64) -> io::Result<Opened<R>>
+        ensures { (self.new.handed ≡ self.old.handed) × (self.new.faults ≡ self.old.faults) × (self.new.last ≡ self.old.last) }
+    {
+        if let Some(open) = self.open.take() {
+            if open.at == offset && open.name.as_str() == name {
+                return Ok(open);
+            }
+        }
+        let mut file = fs::open(&self.rt, name)?;
+        if offset != 0 {
+            file.seek(SeekFrom::Start(offset))?;
+        }
+        let Ok(name) = Name::of(alloc, name) else {
+            return Err(io::Error::from(io::ErrorKind::OutOfMemory));
+        };
+        Ok(Opened {
+            name,
+            at: offset,
+            file,
+        })
+    }
 }
 
-/// Reads from an offset on until the buffer is full or the file ends.
-fn read_piece<R: Files>(rt: &R, name: &str, offset: u64, buf: &mut [u8]) -> io::Result<usize>
+/// Reads until the buffer is full or the file ends.
+fn fill(file: &mut impl Read, buf: &mut [u8]) -> io::Result<usize>
     ensures { IfOk result (λ n. n ≤ length buf.old) }
 {
-    let mut file = fs::open(rt, name)?;
-    file.seek(SeekFrom::Start(offset))?;
     let mut filled = 0;
     while filled < buf.len() {
         let count = file.read(&mut buf[filled..])?;
@@ -72,13 +125,13 @@ impl<R: Files + Drop> Folder for RealFolder<R> {
 
     fn read_at(
         &mut self,
-        _alloc: Global,
+        alloc: Global,
         file: FileId,
         name: &str,
         offset: u64,
         buf: &mut [u8],
     ) -> Result<usize, OutFault> {
-        match read_piece(&self.rt, name, offset, buf) {
+        match self.read_piece(alloc, name, offset, buf) {
             Ok(count) => {
                 self.handed = self.handed.saturating_add(count as u64);
                 Ok(count)
@@ -87,7 +140,7 @@ impl<R: Files + Drop> Folder for RealFolder<R> {
                 self.faults = self.faults.saturating_add(1);
                 self.last = Some(Failure {
                     file,
-                    way: Way::Read,
+                    operation: Operation::Read,
                 });
                 Err(OutFault::Failed)
             }
@@ -101,13 +154,14 @@ impl<R: Files + Drop> Folder for RealFolder<R> {
         name: &str,
         bytes: &[u8],
     ) -> Result<(), OutFault> {
+        self.open = None;
         match write_whole(&self.rt, name, bytes) {
             Ok(()) => Ok(()),
             Err(_) => {
                 self.faults = self.faults.saturating_add(1);
                 self.last = Some(Failure {
                     file,
-                    way: Way::Write,
+                    operation: Operation::Write,
                 });
                 Err(OutFault::Failed)
             }

@@ -18,11 +18,11 @@ pub struct SureFolder {
 }
 
 impl SureFolder {
-    ghost use Rattle.outside.specs.InMemory.{sure_files, with_sure_files};
+    ghost use Rattle.outside.specs.InMemory.{sure_files, sure_seen, with_sure_files};
 
     /// A folder without files.
     pub fn new(alloc: Global) -> SureFolder
-        ensures { sure_files result ≡ map.empty }
+        ensures { sure_seen result ≡ record { files = Some map.empty; handed = 0; faults = 0; last = None } }
     {
         SureFolder {
             alloc,

@@ -12,11 +12,11 @@ pub struct SureSink {
 }
 
 impl SureSink {
-    ghost use Rattle.outside.specs.InMemory.{sure_text};
+    ghost use Rattle.outside.specs.InMemory.{sure_text, sure_sink_seen};
 
     /// A sink without text.
     pub fn new(alloc: Global) -> SureSink
-        ensures { sure_text result ≡ [] }
+        ensures { sure_sink_seen result ≡ record { written = Some []; faults = 0 } }
     {
         SureSink {
             text: Bytes::new(alloc),

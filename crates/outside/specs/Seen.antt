@@ -1,0 +1,58 @@
+-- The outside as a value: what is seen of a folder and of a sink, and what one call of them makes of it.
+use Rattle.std.specs.Prelude.{◌≡◌, ℕ, List, Option, Some, Result, Ok, Err}
+use Rattle.octets.specs.Count.{Rose, counted}
+use Rattle.outside.specs.Files.{Files, IsPiece, SameBut, put_if_told}
+use Rattle.outside.specs.Text.{gained, GainedBeginning}
+use Rattle.outside.specs.declared.file_id.FileId.{FileId}
+use Rattle.outside.specs.declared.file_id.Failure.{Failure}
+use Rattle.outside.specs.declared.file_id.Operation.{Operation}
+use Rattle.outside.specs.declared.file_id.Operation.TheVariants.{Read, Write}
+use Rattle.outside.specs.declared.file_id.OutFault.{OutFault}
+use Rattle.outside.specs.declared.file_id.OutFault.TheVariants.{Failed, NoMemory}
+
+-- what is seen of a folder: its files, where it tells them, the octets that it handed out, its calls that
+-- failed, and the last one of these
+pub record FolderSeen : Type 0 where
+  pub files : Option Files
+  pub handed : ℕ
+  pub faults : ℕ
+  pub last : Option Failure
+
+-- what is seen of a sink: its text, where it tells it, and its calls that failed
+pub record SinkSeen : Type 0 where
+  pub written : Option (List ℕ)
+  pub faults : ℕ
+
+-- a folder by its meanings
+abbrev pub folder_seen : {F : Type 0} → (F → Option Files) → (F → ℕ) → (F → ℕ) → (F → Option Failure) → F → FolderSeen
+folder_seen files handed faults last folder =
+    record { files = files folder; handed = handed folder; faults = faults folder; last = last folder }
+
+-- a sink by its meanings
+abbrev pub sink_seen : {K : Type 0} → (K → Option (List ℕ)) → (K → ℕ) → K → SinkSeen
+sink_seen written faults sink = record { written = written sink; faults = faults sink }
+
+-- a call of this file failed, and nothing else is seen of it but what the file holds
+pub record CallFailed (old new : FolderSeen) (file : FileId) (operation : Operation) : Type 0 where
+  pub rose : Rose old.faults new.faults
+  pub last : new.last ≡ Some (record { file = file; operation = operation })
+  pub handed : new.handed ≡ old.handed
+
+-- a read of a piece of a file from an offset on, by its answer
+abbrev pub ReadEnds : FolderSeen → FolderSeen → FileId → List ℕ → ℕ → List ℕ → Result ℕ OutFault → Type 0
+ReadEnds old new file name offset buffer (Ok n) =
+    (new ≡ record old { handed = counted old.handed n }) × IsPiece old.files name offset n buffer
+ReadEnds old new file name offset buffer (Err Failed) = CallFailed old new file Read × (new.files ≡ old.files)
+ReadEnds old new file name offset buffer (Err NoMemory) = new ≡ old
+
+-- a write of a file, by its answer; after a failure the named file may hold anything
+abbrev pub WriteEnds : FolderSeen → FolderSeen → FileId → List ℕ → List ℕ → Result (Unit {0}) OutFault → Type 0
+WriteEnds old new file name octets (Ok _) = new ≡ record old { files = put_if_told old.files name octets }
+WriteEnds old new file name octets (Err Failed) = CallFailed old new file Write × SameBut name old.files new.files
+WriteEnds old new file name octets (Err NoMemory) = new ≡ old
+
+-- a text that is put on a sink, by the answer; after a failure a beginning of it may stand there
+abbrev pub PutEnds : SinkSeen → SinkSeen → List ℕ → Result (Unit {0}) OutFault → Type 0
+PutEnds old new octets (Ok _) = new ≡ record old { written = gained old.written octets }
+PutEnds old new octets (Err Failed) = Rose old.faults new.faults × GainedBeginning old.written new.written octets
+PutEnds old new octets (Err NoMemory) = new ≡ old
