@@ -1,17 +1,15 @@
 -- Reading a file piece by piece.
 use Rattle.std.proofs.Common.{◌≡◌, ℕ, ◌+◌, ◌≤◌, List, [], ◌++◌, length, take, Option, None, Some, refl, sym, ap, ◌∙◌, arith, take-add}
 use Rattle.std.proofs.lemmas.List.{length-append, length-take}
-use Rattle.octets.specs.Count.{counted}
 use Rattle.outside.specs.Files.{Files, content_of, IsPiece}
-use Rattle.mapt_tool.specs.Read.{HoldsFrom}
+use Rattle.outside.specs.Seen.{FolderSeen}
+use Rattle.mapt_tool.specs.Ended.{handing}
+use Rattle.mapt_tool.specs.Pieces.{HoldsFrom}
 
 -- the octets so far are the file's first ones, and all that was handed out
-pub record HasRead {F : Type 0} (files : F → Option Files) (handed faults : F → ℕ) (old now : F) (name octets : List ℕ) (limit room : ℕ) : Type 0 where
-  pub holds : HoldsFrom (files old) name octets
-  pub same : files now ≡ files old
-  pub handed_out : handed now ≡ counted (handed old) (length octets)
-  pub unfailed : faults now ≡ faults old
-  pub rises : handed old ≤ handed now
+pub record HasRead (old now : FolderSeen) (name octets : List ℕ) (limit room : ℕ) : Type 0 where
+  pub holds : HoldsFrom old.files name octets
+  pub seen : now ≡ handing old (length octets)
   pub within : length octets ≤ limit + 1
   pub piece : room ≡ 65536
 

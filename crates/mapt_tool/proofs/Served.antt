@@ -5,7 +5,7 @@ use Rattle.std.proofs.lemmas.Bool.{and_parts}
 use Rattle.std.proofs.lemmas.List.Elements.{All-from_recursion}
 use Rattle.pcap_files.specs.declared.records.Record.{Record}
 use Rattle.mapt_tool.specs.Home.{is_served, IsServed, Stands}
-use Rattle.mapt_tool.specs.Outcome.{packet_of}
+use Rattle.mapt_tool.specs.Replay.{packet_of}
 use Rattle.mapt_tool.proofs.ServedHeaders.{facts}
 
 pub served_stands : (packet : List ℕ) → is_served packet ≡ true → Stands packet

@@ -1,179 +1,252 @@
 -- What is told of steps that follow one another.
-use Rattle.std.proofs.Common.{◌≡◌, ℕ, ◌≤◌, true, false, ltb, List, length, Option, None, Some, Result, Ok, Err, refl, sym, ap, ◌∙◌, inl, inr, arith}
-use Rattle.std.proofs.lemmas.Bool.{le-ltb, lt-ltb}
+use Rattle.std.proofs.Common.{◌≡◌, ◌⊎◌, ℕ, ◌+◌, ◌≤◌, ◌<◌, List, [], ◌∷◌, ◌++◌, length, All, Option, None, Some, Result, Ok, Err, refl, sym, ap, subst, ◌∙◌, inl, inr, arith}
+use Rattle.std.specs.List.{sum_by}
+use Rattle.std.proofs.lemmas.List.Sums.{sum_by-append}
+use Rattle.std.proofs.lemmas.List.{length-take}
+use Rattle.std.proofs.lemmas.List.Elements.{All-append, All-nil, All-cons}
+use Rattle.octets.specs.Count.{counted}
 use Rattle.outside.specs.Files.{Files, content_of}
+use Rattle.outside.specs.Seen.{FolderSeen, CallFailed}
 use Rattle.outside.specs.declared.file_id.FileId.{FileId}
-use Rattle.outside.specs.declared.file_id.Failure.{Failure}
+use Rattle.outside.specs.declared.file_id.Operation.TheVariants.{Read as Reading}
 use Rattle.mapt_tool.specs.declared.status.Status.{Status}
-use Rattle.mapt_tool.specs.declared.status.Status.TheVariants.{Done, Usage, ReadFault, WriteFault, SetupRefused, CaptureRefused, TooLong, NoMemory, NotBuilt}
-use Rattle.mapt_tool.specs.Limits.{file_limit}
-use Rattle.mapt_tool.specs.Read.{IsWhole, IsLonger, ReadFails}
-use Rattle.mapt_tool.specs.Outcome.{◌>>=◌, text_of}
-use Rattle.mapt_tool.specs.Planning.{Tells, gives, after, Stops, Answers, AnswersOne}
+use Rattle.mapt_tool.specs.declared.status.Status.TheVariants.{Done, Usage, ReadFault, WriteFault, TooLong, NoMemory}
+use Rattle.mapt_tool.specs.Ended.{AreToldOf, IsToldLonger, handing, HandedOut, ComesTo, Within, ReadFailed, FoundTooLong, LackedWithin, Lacked, Ended, Given}
+use Rattle.mapt_tool.specs.Pieces.{HoldsFrom, IsWhole, PieceFails}
+use Rattle.mapt_tool.specs.Reading.{Read, Next, gives, refuses, wants, lacks, octets_of, Answers, Reads, Goes, Then, AreOf}
+
+-- counts add up
+pub counted_twice : (h a b : ℕ) → counted (counted h a) b ≡ counted h (a + b)
+counted_twice h a b = omega arith
+
+pub handing_twice : (folder : FolderSeen) (a b : ℕ) → handing (handing folder a) b ≡ handing folder (a + b)
+handing_twice folder a b = ap (λ (n : ℕ). record folder { handed = n }) (counted_twice folder.handed a b)
+
+pub octets_of-append : (front back : List Read) → octets_of (front ++ back) ≡ octets_of front + octets_of back
+octets_of-append front back = sum_by-append (λ (r : Read). length r.octets) front back
+
+-- ---- what was handed out
+
+told_none : (files : Option Files) → AreToldOf files []
+told_none None = tt
+told_none (Some files) = All-nil (λ (r : Read). r.octets ≡ content_of files r.name)
+
+told_append : (files : Option Files) (front back : List Read) → AreToldOf files front → AreToldOf files back → AreToldOf files (front ++ back)
+told_append None front back a b = tt
+told_append (Some files) front back a b = All-append (λ (r : Read). r.octets ≡ content_of files r.name) front back a b
+
+told_one : (files : Option Files) (file : FileId) (name octets : List ℕ) → IsWhole files name octets → AreToldOf files (record { file = file; name = name; octets = octets } ∷ [])
+told_one None file name octets whole = tt
+told_one (Some files) file name octets whole =
+    All-cons (λ (r : Read). r.octets ≡ content_of files r.name) (record { file = file; name = name; octets = octets }) [] whole (All-nil (λ (r : Read). r.octets ≡ content_of files r.name))
+
+handing_none : (folder : FolderSeen) → folder ≡ handing folder 0
+handing_none folder = ap (λ (n : ℕ). record folder { handed = n }) (omega arith)
+
+pub handed_none : (folder : FolderSeen) → HandedOut folder folder []
+handed_none folder = record { seen = handing_none folder; told = told_none folder.files }
+
+files_kept : (old mid : FolderSeen) (reads : List Read) → HandedOut old mid reads → mid.files ≡ old.files
+files_kept old mid reads handed = ap (λ (f : FolderSeen). f.files) handed.seen
+
+handed_then : (old mid new : FolderSeen) (front back : List Read) (part : ℕ) → HandedOut old mid front → new ≡ handing mid (octets_of back + part) → new ≡ handing old (octets_of (front ++ back) + part)
+handed_then old mid new front back part a b =
+    let sums : octets_of front + (octets_of back + part) ≡ octets_of (front ++ back) + part = omega (arith, octets_of-append front back) in
+    b ∙ ap (λ (f : FolderSeen). handing f (octets_of back + part)) a.seen ∙ handing_twice old (octets_of front) (octets_of back + part) ∙ ap (λ (n : ℕ). handing old n) sums
+
+told_then : (old mid new : FolderSeen) (front back : List Read) → HandedOut old mid front → AreToldOf mid.files back → AreToldOf old.files (front ++ back)
+told_then old mid new front back a b =
+    told_append old.files front back a.told (subst (λ (files : Option Files). AreToldOf files back) (files_kept old mid front a) b)
+
+handed_twice : (old mid new : FolderSeen) (front back : List Read) → HandedOut old mid front → HandedOut mid new back → HandedOut old new (front ++ back)
+handed_twice old mid new front back a b =
+    let none : octets_of back ≡ octets_of back + 0 = omega arith in
+    let more : octets_of (front ++ back) + 0 ≡ octets_of (front ++ back) = omega arith in
+    record {
+      seen = handed_then old mid new front back 0 a (b.seen ∙ ap (λ (n : ℕ). handing mid n) none) ∙ ap (λ (n : ℕ). handing old n) more;
+      told = told_then old mid new front back a b.told;
+    }
+
+-- ---- one step after another
+
+then_reached : {A B E : Type 0} (First : List Read → Next A E → Type 0) (Second : A → List Read → Next B E → Type 0) (reads : List Read) (next : Next B E) → Goes First Second reads next → Then First Second reads next
+then_reached First Second reads (gives y) goes = goes
+then_reached First Second reads (refuses fault) goes = inr goes
+then_reached First Second reads (wants file name limit) goes = inr goes
+then_reached First Second reads lacks goes = inr goes
+
+pub comes_then : {A B E : Type 0} (First : List Read → Next A E → Type 0) (Second : A → List Read → Next B E → Type 0) (old mid new : FolderSeen) (x : A) (next : Next B E)
+    → ComesTo First old mid (gives x) → ComesTo (Second x) mid new next → ComesTo (Then First Second) old new next
+comes_then First Second old mid new x next a b = record {
+  reads = a.reads ++ b.reads;
+  handed = handed_twice old mid new a.reads b.reads a.handed b.handed;
+  reached = then_reached First Second (a.reads ++ b.reads) next (record { value = x; front = a.reads; back = b.reads; parts = refl; first = a.reached; second = b.reached });
+}
+
+within_then : {A B E : Type 0} (First : List Read → Next A E → Type 0) (Second : A → List Read → Next B E → Type 0) (old mid new : FolderSeen) (x : A) (file : FileId) (name : List ℕ) (limit part : ℕ)
+    → ComesTo First old mid (gives x) → Within (Second x) mid new file name limit part → Within (Then First Second) old new file name limit part
+within_then First Second old mid new x file name limit part a b = record {
+  reads = a.reads ++ b.reads;
+  seen = handed_then old mid new a.reads b.reads part a.handed b.seen;
+  told = told_then old mid new a.reads b.reads a.handed b.told;
+  reached = inr (record { value = x; front = a.reads; back = b.reads; parts = refl; first = a.reached; second = b.reached });
+}
+
+longer_kept : (old mid : FolderSeen) (reads : List Read) (name : List ℕ) (limit : ℕ) → HandedOut old mid reads → IsToldLonger mid.files name limit → IsToldLonger old.files name limit
+longer_kept old mid reads name limit a b = subst (λ (files : Option Files). IsToldLonger files name limit) (files_kept old mid reads a) b
+
+lacked_then : {A B E : Type 0} (First : List Read → Next A E → Type 0) (Second : A → List Read → Next B E → Type 0) (old mid new : FolderSeen) (x : A)
+    → ComesTo First old mid (gives x) → Lacked (Second x) mid new → Lacked (Then First Second) old new
+lacked_then First Second old mid new x a (inl b) = inl (comes_then First Second old mid new x lacks a b)
+lacked_then First Second old mid new x a (inr b) = inr (record {
+  file = b.file;
+  name = b.name;
+  limit = b.limit;
+  part = b.part;
+  within = within_then First Second old mid new x b.file b.name b.limit b.part a b.within;
+  fits = b.fits;
+})
+
+-- where the first step gave a value, both end as the second one does
+pub ends_then : {A B : Type 0} (First : List Read → Next A Status → Type 0) (Second : A → List Read → Next B Status → Type 0) (old mid new : FolderSeen) (x : A) (result : Result B Status)
+    → Ended First old mid (Ok x) → Ended (Second x) mid new result → Ended (Then First Second) old new result
+ends_then First Second old mid new x (Ok y) a b = comes_then First Second old mid new x (gives y) a b
+ends_then First Second old mid new x (Err (ReadFault file)) a b = record {
+  mid = b.mid;
+  name = b.name;
+  limit = b.limit;
+  part = b.part;
+  within = within_then First Second old mid b.mid x file b.name b.limit b.part a b.within;
+  fits = b.fits;
+  failed = b.failed;
+  files = b.files ∙ files_kept old mid a.reads a.handed;
+}
+ends_then First Second old mid new x (Err (TooLong file)) a b = record {
+  name = b.name;
+  limit = b.limit;
+  within = within_then First Second old mid new x file b.name b.limit (b.limit + 1) a b.within;
+  longer = longer_kept old mid a.reads b.name b.limit a.handed b.longer;
+}
+ends_then First Second old mid new x (Err NoMemory) a b = lacked_then First Second old mid new x a b
+ends_then First Second old mid new x (Err Done) a b = absurd b
+ends_then First Second old mid new x (Err (Usage number)) a b = absurd b
+ends_then First Second old mid new x (Err (WriteFault file)) a b = absurd b
+ends_then First Second old mid new x (Err refusal) a b = comes_then First Second old mid new x (refuses refusal) a b
+
+within_first : {A B E : Type 0} (First : List Read → Next A E → Type 0) (Second : A → List Read → Next B E → Type 0) (old new : FolderSeen) (file : FileId) (name : List ℕ) (limit part : ℕ)
+    → Within First old new file name limit part → Within (Then First Second) old new file name limit part
+within_first First Second old new file name limit part a = record { reads = a.reads; seen = a.seen; told = a.told; reached = inl a.reached }
+
+lacked_first : {A B E : Type 0} (First : List Read → Next A E → Type 0) (Second : A → List Read → Next B E → Type 0) (old new : FolderSeen) → Lacked First old new → Lacked (Then First Second) old new
+lacked_first First Second old new (inl a) = inl (record { reads = a.reads; handed = a.handed; reached = inl a.reached })
+lacked_first First Second old new (inr a) = inr (record {
+  file = a.file;
+  name = a.name;
+  limit = a.limit;
+  part = a.part;
+  within = within_first First Second old new a.file a.name a.limit a.part a.within;
+  fits = a.fits;
+})
+
+-- where the first step gave none, both end as it does
+pub ends_first : {A B : Type 0} (First : List Read → Next A Status → Type 0) (Second : A → List Read → Next B Status → Type 0) (old new : FolderSeen) (status : Status)
+    → Ended First old new (Err status) → Ended (Then First Second) old new (Err status)
+ends_first First Second old new (ReadFault file) a = record {
+  mid = a.mid;
+  name = a.name;
+  limit = a.limit;
+  part = a.part;
+  within = within_first First Second old a.mid file a.name a.limit a.part a.within;
+  fits = a.fits;
+  failed = a.failed;
+  files = a.files;
+}
+ends_first First Second old new (TooLong file) a = record {
+  name = a.name;
+  limit = a.limit;
+  within = within_first First Second old new file a.name a.limit (a.limit + 1) a.within;
+  longer = a.longer;
+}
+ends_first First Second old new NoMemory a = lacked_first First Second old new a
+ends_first First Second old new Done a = absurd a
+ends_first First Second old new (Usage number) a = absurd a
+ends_first First Second old new (WriteFault file) a = absurd a
+ends_first First Second old new refusal a = record { reads = a.reads; handed = a.handed; reached = inl a.reached }
+
+-- a step that reads nothing
+pub ends_here : {A : Type 0} (IsAnswer : Result A Status → Type 0) (folder : FolderSeen) (result : Result A Status) → Given IsAnswer result → Ended (Answers IsAnswer) folder folder result
+ends_here IsAnswer folder (Ok x) given = record { reads = []; handed = handed_none folder; reached = (refl, given) }
+ends_here IsAnswer folder (Err (ReadFault file)) given = absurd given
+ends_here IsAnswer folder (Err (TooLong file)) given = absurd given
+ends_here IsAnswer folder (Err NoMemory) given = inl (record { reads = []; handed = handed_none folder; reached = refl })
+ends_here IsAnswer folder (Err Done) given = absurd given
+ends_here IsAnswer folder (Err (Usage number)) given = absurd given
+ends_here IsAnswer folder (Err (WriteFault file)) given = absurd given
+ends_here IsAnswer folder (Err refusal) given = record { reads = []; handed = handed_none folder; reached = (refl, given) }
+
+-- ---- the reading of a file
+
+one_read : (octets : List ℕ) (file : FileId) (name : List ℕ) → length octets ≡ octets_of (record { file = file; name = name; octets = octets } ∷ [])
+one_read octets file name = omega arith
 
 -- a file that was read whole
-pub text_read : (told : Option Files) (file : FileId) (name text : List ℕ) → IsWhole told name text → length text ≤ file_limit → Tells told (gives (λ m. text_of m file name)) (Ok text)
-unfolding text_of
-text_read None file name text whole short = tt
-text_read (Some files) file name text whole short =
-    let none : ltb file_limit (length (content_of files name)) ≡ false = le-ltb _ _ (omega (arith, ap length whole)) in
-    rw none (ap Ok (sym whole))
+pub ends_read : (old new : FolderSeen) (file : FileId) (name octets : List ℕ) (limit : ℕ) → new ≡ handing old (length octets) → IsWhole old.files name octets → length octets ≤ limit → Ended (Reads file name limit) old new (Ok octets)
+ends_read old new file name octets limit seen whole short = record {
+  reads = record { file = file; name = name; octets = octets } ∷ [];
+  handed = record {
+    seen = seen ∙ ap (λ (n : ℕ). handing old n) (one_read octets file name);
+    told = told_one old.files file name octets whole;
+  };
+  reached = (refl, short);
+}
+
+-- a file of which a part was read
+part_read : {E : Type 0} (old new : FolderSeen) (file : FileId) (name : List ℕ) (limit part : ℕ) → new ≡ handing old part → Within {E = E} (Reads file name limit) old new file name limit part
+part_read old new file name limit part seen = record {
+  reads = [];
+  seen = seen ∙ ap (λ (n : ℕ). handing old n) (omega arith);
+  told = told_none old.files;
+  reached = (refl, refl, refl, refl);
+}
+
+longer_told : (files : Option Files) (name octets : List ℕ) (limit : ℕ) → HoldsFrom files name octets → limit < length octets → IsToldLonger files name limit
+longer_told None name octets limit holds more = tt
+longer_told (Some files) name octets limit holds more = omega (arith, ap length holds, length-take (length octets) (content_of files name))
 
 -- a file that is too long
-pub text_longer : (told : Option Files) (file : FileId) (name : List ℕ) → IsLonger told name file_limit → Tells told (gives (λ m. text_of m file name)) (Err (TooLong file))
-unfolding text_of
-text_longer None file name longer = tt
-text_longer (Some files) file name longer =
-    let more : ltb file_limit (length (content_of files name)) ≡ true = lt-ltb _ _ longer in
-    rw more refl
+pub ends_too_long : (old new : FolderSeen) (file : FileId) (name octets : List ℕ) (limit : ℕ) → new ≡ handing old (length octets) → HoldsFrom old.files name octets → limit < length octets → length octets ≤ limit + 1 → Ended {A = List ℕ} (Reads file name limit) old new (Err (TooLong file))
+ends_too_long old new file name octets limit seen holds more most =
+    let all : length octets ≡ limit + 1 = omega arith in
+    record {
+      name = name;
+      limit = limit;
+      within = part_read old new file name limit (limit + 1) (seen ∙ ap (λ (n : ℕ). handing old n) all);
+      longer = longer_told old.files name octets limit holds more;
+    }
 
--- why a file wasn't read is why the step stops
-pub text_stops : {F : Type 0} (files : F → Option Files) (faults : F → ℕ) (last : F → Option Failure) (handed : F → ℕ) (old new : F) (file : FileId) (name : List ℕ) (status : Status)
-    → ReadFails files faults last handed old new file name file_limit status → Stops files faults last handed old new (gives (λ m. text_of m file name)) status
-text_stops files faults last handed old new file name (ReadFault named) fails = rw fails.0 fails.1
-text_stops files faults last handed old new file name (TooLong named) fails =
-    (record { told = rw fails.0 (text_longer (files old) file name fails.1.longer); unfailed = fails.2 }, fails.1.handed_out)
-text_stops files faults last handed old new file name NoMemory fails = fails
-text_stops files faults last handed old new file name (SetupRefused cause place) fails = absurd fails
-text_stops files faults last handed old new file name (CaptureRefused refused fault) fails = absurd fails
-text_stops files faults last handed old new file name (NotBuilt named) fails = absurd fails
-text_stops files faults last handed old new file name Done fails = absurd fails
-text_stops files faults last handed old new file name (Usage i) fails = absurd fails
-text_stops files faults last handed old new file name (WriteFault named) fails = absurd fails
+-- a piece that wasn't read, behind octets that were
+pub ends_unread : (old mid new : FolderSeen) (file : FileId) (name octets : List ℕ) (limit room : ℕ) (status : Status) → mid ≡ handing old (length octets) → length octets ≤ limit → length octets + room ≤ limit + 1 → PieceFails mid new file room status → Ended {A = List ℕ} (Reads file name limit) old new (Err status)
+ends_unread old mid new file name octets limit room (ReadFault named) seen fits most fails =
+    rw fails.0 (record {
+      mid = mid;
+      name = name;
+      limit = limit;
+      part = length octets;
+      within = part_read old mid file name limit (length octets) seen;
+      fits = fits;
+      failed = fails.1;
+      files = fails.2 ∙ ap (λ (f : FolderSeen). f.files) seen;
+    })
+ends_unread old mid new file name octets limit room NoMemory seen fits most fails = inr (record {
+  file = file;
+  name = name;
+  limit = limit;
+  part = length octets + fails.0;
+  within = part_read old new file name limit (length octets + fails.0) (fails.2 ∙ ap (λ (f : FolderSeen). handing f fails.0) seen ∙ handing_twice old (length octets) fails.0);
+  fits = omega (arith, fails.1);
+})
+ends_unread old mid new file name octets limit room other seen fits most fails = absurd fails
 
--- the outcome of two steps, from that of the first and that of the second
-pub tells_then : {A B : Type 0} (told : Option Files) (first : Files → Result A Status) (x : A) (second : A → Files → Result B Status) (answer : Result B Status)
-    → Tells told (gives first) (Ok x) → Tells told (gives (second x)) answer → Tells told (gives (λ m. first m >>= λ y. second y m)) answer
-tells_then None first x second answer a b = tt
-tells_then (Some files) first x second answer a b = rw a b
-
--- a refusal of the first step is one of both
-pub tells_first : {A B : Type 0} (told : Option Files) (first : Files → Result A Status) (status : Status) (second : A → Files → Result B Status)
-    → Tells told (gives first) (Err status) → Tells told (gives (λ m. first m >>= λ y. second y m)) (Err status)
-tells_first None first status second a = tt
-tells_first (Some files) first status second a = rw a refl
-
--- a step that reads nothing has one outcome
-pub tells_pure : {A : Type 0} (told : Option Files) (outcome answer : Result A Status) → outcome ≡ answer → Tells told (gives (λ _. outcome)) answer
-tells_pure None outcome answer e = tt
-tells_pure (Some files) outcome answer e = e
-
--- where the first step stops, both do
-pub stops_first : {F A B : Type 0} (files : F → Option Files) (faults : F → ℕ) (last : F → Option Failure) (handed : F → ℕ) (old new : F) (first : Files → Result A Status) (second : A → Files → Result B Status) (status : Status)
-    → Stops files faults last handed old new (gives first) status → Stops files faults last handed old new (gives (λ m. first m >>= λ y. second y m)) status
-stops_first files faults last handed old new first second (ReadFault file) stops = stops
-stops_first files faults last handed old new first second (TooLong file) stops =
-    (record { told = tells_first (files old) first (TooLong file) second stops.0.told; unfailed = stops.0.unfailed }, stops.1)
-stops_first files faults last handed old new first second (SetupRefused cause place) stops =
-    record { told = tells_first (files old) first (SetupRefused cause place) second stops.told; unfailed = stops.unfailed }
-stops_first files faults last handed old new first second (CaptureRefused file fault) stops =
-    record { told = tells_first (files old) first (CaptureRefused file fault) second stops.told; unfailed = stops.unfailed }
-stops_first files faults last handed old new first second (NotBuilt file) stops =
-    record { told = tells_first (files old) first (NotBuilt file) second stops.told; unfailed = stops.unfailed }
-stops_first files faults last handed old new first second NoMemory stops = stops
-stops_first files faults last handed old new first second Done stops = absurd stops
-stops_first files faults last handed old new first second (Usage i) stops = absurd stops
-stops_first files faults last handed old new first second (WriteFault file) stops = absurd stops
-
--- what the first step leaves of the folder
-pub record Leaves {F : Type 0} (files : F → Option Files) (faults handed : F → ℕ) (old mid : F) : Type 0 where
-  pub same : files mid ≡ files old
-  pub unfailed : faults mid ≡ faults old
-  pub rises : handed old ≤ handed mid
-
--- where the second step stops, both do
-pub stops_then : {F A B : Type 0} (files : F → Option Files) (faults : F → ℕ) (last : F → Option Failure) (handed : F → ℕ) (old mid new : F) (first : Files → Result A Status) (x : A) (second : A → Files → Result B Status) (status : Status)
-    → Leaves files faults handed old mid → Tells (files old) (gives first) (Ok x) → Stops files faults last handed mid new (gives (second x)) status → Stops files faults last handed old new (gives (λ m. first m >>= λ y. second y m)) status
-stops_then files faults last handed old mid new first x second (ReadFault file) left done stops =
-    record { rose = rw (← left.unfailed) stops.rose; told = stops.told }
-stops_then files faults last handed old mid new first x second (TooLong file) left done stops =
-    (record { told = tells_then (files old) first x second (Err (TooLong file)) done (rw (← left.same) stops.0.told); unfailed = stops.0.unfailed ∙ left.unfailed }, omega (arith, left.rises, stops.1))
-stops_then files faults last handed old mid new first x second (SetupRefused cause place) left done stops =
-    record { told = tells_then (files old) first x second (Err (SetupRefused cause place)) done (rw (← left.same) stops.told); unfailed = stops.unfailed ∙ left.unfailed }
-stops_then files faults last handed old mid new first x second (CaptureRefused file fault) left done stops =
-    record { told = tells_then (files old) first x second (Err (CaptureRefused file fault)) done (rw (← left.same) stops.told); unfailed = stops.unfailed ∙ left.unfailed }
-stops_then files faults last handed old mid new first x second (NotBuilt file) left done stops =
-    record { told = tells_then (files old) first x second (Err (NotBuilt file)) done (rw (← left.same) stops.told); unfailed = stops.unfailed ∙ left.unfailed }
-stops_then files faults last handed old mid new first x second NoMemory left done stops = stops ∙ left.unfailed
-stops_then files faults last handed old mid new first x second Done left done stops = absurd stops
-stops_then files faults last handed old mid new first x second (Usage i) left done stops = absurd stops
-stops_then files faults last handed old mid new first x second (WriteFault file) left done stops = absurd stops
-
--- where a step that reads nothing stops
-pub stops_pure : {F A X : Type 0} (files : F → Option Files) (faults : F → ℕ) (last : F → Option Failure) (handed : F → ℕ) (now : F) (view : X → A) (outcome : Result A Status) (status : Status)
-    → Answers view (Err status) outcome → Stops files faults last handed now now (gives (λ _. outcome)) status
-stops_pure files faults last handed now view outcome (ReadFault file) answers = absurd answers
-stops_pure files faults last handed now view outcome (TooLong file) answers = absurd answers
-stops_pure files faults last handed now view outcome (SetupRefused cause place) answers =
-    record { told = tells_pure (files now) outcome (Err (SetupRefused cause place)) answers; unfailed = refl }
-stops_pure files faults last handed now view outcome (CaptureRefused file fault) answers =
-    record { told = tells_pure (files now) outcome (Err (CaptureRefused file fault)) answers; unfailed = refl }
-stops_pure files faults last handed now view outcome (NotBuilt file) answers =
-    record { told = tells_pure (files now) outcome (Err (NotBuilt file)) answers; unfailed = refl }
-stops_pure files faults last handed now view outcome NoMemory answers = refl
-stops_pure files faults last handed now view outcome Done answers = absurd answers
-stops_pure files faults last handed now view outcome (Usage i) answers = absurd answers
-stops_pure files faults last handed now view outcome (WriteFault file) answers = absurd answers
-
--- the outcome of a step and of one after it that reads nothing
-pub tells_after : {A B : Type 0} (told : Option Files) (First : Files → Result A Status → Type 0) (next : A → Result B Status → Type 0) (x : A) (y : B)
-    → Tells told First (Ok x) → next x (Ok y) → Tells told (after First next) (Ok y)
-tells_after None First next x y a b = tt
-tells_after (Some files) First next x y a b = (x, a, b)
-
--- a refusal of the first step
-pub refused_first : {A B : Type 0} (told : Option Files) (First : Files → Result A Status → Type 0) (next : A → Result B Status → Type 0) (status : Status)
-    → Tells told First (Err status) → Tells told (after First next) (Err status)
-refused_first None First next status a = tt
-refused_first (Some files) First next status a = inl a
-
--- a refusal of the second
-pub refused_after : {A B : Type 0} (told : Option Files) (First : Files → Result A Status → Type 0) (next : A → Result B Status → Type 0) (x : A) (status : Status)
-    → Tells told First (Ok x) → next x (Err status) → Tells told (after First next) (Err status)
-refused_after None First next x status a b = tt
-refused_after (Some files) First next x status a b = inr (x, a, b)
-
--- where the first step stops, both do
-pub stops_before : {F A B : Type 0} (files : F → Option Files) (faults : F → ℕ) (last : F → Option Failure) (handed : F → ℕ) (old new : F) (First : Files → Result A Status → Type 0) (next : A → Result B Status → Type 0) (status : Status)
-    → Stops files faults last handed old new First status → Stops files faults last handed old new (after First next) status
-stops_before files faults last handed old new First next (ReadFault file) stops = stops
-stops_before files faults last handed old new First next (TooLong file) stops =
-    (record { told = refused_first (files old) First next (TooLong file) stops.0.told; unfailed = stops.0.unfailed }, stops.1)
-stops_before files faults last handed old new First next (SetupRefused cause place) stops =
-    record { told = refused_first (files old) First next (SetupRefused cause place) stops.told; unfailed = stops.unfailed }
-stops_before files faults last handed old new First next (CaptureRefused file fault) stops =
-    record { told = refused_first (files old) First next (CaptureRefused file fault) stops.told; unfailed = stops.unfailed }
-stops_before files faults last handed old new First next (NotBuilt file) stops =
-    record { told = refused_first (files old) First next (NotBuilt file) stops.told; unfailed = stops.unfailed }
-stops_before files faults last handed old new First next NoMemory stops = stops
-stops_before files faults last handed old new First next Done stops = absurd stops
-stops_before files faults last handed old new First next (Usage i) stops = absurd stops
-stops_before files faults last handed old new First next (WriteFault file) stops = absurd stops
-
--- where the second step, which reads nothing, stops
-pub stops_after : {F A B : Type 0} (files : F → Option Files) (faults : F → ℕ) (last : F → Option Failure) (handed : F → ℕ) (old new : F) (First : Files → Result A Status → Type 0) (next : A → Result B Status → Type 0) (x : A) (status : Status)
-    → faults new ≡ faults old → Tells (files old) First (Ok x) → AnswersOne (next x) (Err status) → Stops files faults last handed old new (after First next) status
-stops_after files faults last handed old new First next x (ReadFault file) unfailed done answers = absurd answers
-stops_after files faults last handed old new First next x (TooLong file) unfailed done answers = absurd answers
-stops_after files faults last handed old new First next x (SetupRefused cause place) unfailed done answers =
-    record { told = refused_after (files old) First next x (SetupRefused cause place) done answers; unfailed = unfailed }
-stops_after files faults last handed old new First next x (CaptureRefused file fault) unfailed done answers =
-    record { told = refused_after (files old) First next x (CaptureRefused file fault) done answers; unfailed = unfailed }
-stops_after files faults last handed old new First next x (NotBuilt file) unfailed done answers =
-    record { told = refused_after (files old) First next x (NotBuilt file) done answers; unfailed = unfailed }
-stops_after files faults last handed old new First next x NoMemory unfailed done answers = unfailed
-stops_after files faults last handed old new First next x Done unfailed done answers = absurd answers
-stops_after files faults last handed old new First next x (Usage i) unfailed done answers = absurd answers
-stops_after files faults last handed old new First next x (WriteFault file) unfailed done answers = absurd answers
-
--- an answer that is determined is one of several
-pub one_answer : {A X : Type 0} (view : X → A) (outcome : Result A Status) (status : Status) → Answers view (Err status) outcome → AnswersOne (λ answer. outcome ≡ answer) (Err status)
-one_answer view outcome (ReadFault file) answers = answers
-one_answer view outcome (TooLong file) answers = answers
-one_answer view outcome (SetupRefused cause place) answers = answers
-one_answer view outcome (CaptureRefused file fault) answers = answers
-one_answer view outcome (NotBuilt file) answers = answers
-one_answer view outcome NoMemory answers = tt
-one_answer view outcome Done answers = answers
-one_answer view outcome (Usage i) answers = answers
-one_answer view outcome (WriteFault file) answers = answers
+-- memory ran out before a file was read
+pub ends_lacking : (folder : FolderSeen) (file : FileId) (name : List ℕ) (limit : ℕ) → Ended {A = List ℕ} (Reads file name limit) folder folder (Err NoMemory)
+ends_lacking folder file name limit = inl (record { reads = []; handed = handed_none folder; reached = refl })

@@ -1,90 +1,71 @@
--- What stands outside after a plan was carried out, by how that ended. A folder is seen by its files, its
--- count of faults and its last fault; a sink by its text and its count of faults.
-use Rattle.std.specs.Prelude.{◌≡◌, ◌⊎◌, ℕ, List, ◌∷◌, ◌++◌, Option, Some}
+-- What stands outside after a plan was carried out, by how that ended.
+use Rattle.std.specs.Prelude.{◌≡◌, ◌⊎◌, ℕ, List, ◌∷◌, ◌++◌}
 use Rattle.octets.specs.Count.{Rose}
-use Rattle.outside.specs.Files.{Files, SameBut}
+use Rattle.outside.specs.Files.{SameBut}
+use Rattle.outside.specs.Seen.{FolderSeen, SinkSeen, CallFailed}
 use Rattle.outside.specs.Text.{gained, GainedBeginning}
 use Rattle.outside.specs.declared.file_id.FileId.{FileId}
 use Rattle.outside.specs.declared.file_id.FileId.TheVariants.{Report}
-use Rattle.outside.specs.declared.file_id.Failure.{Failure}
-use Rattle.outside.specs.declared.file_id.Way.TheVariants.{Write}
+use Rattle.outside.specs.declared.file_id.Operation.TheVariants.{Write}
 use Rattle.mapt_tool.specs.declared.plan.FileWrite.{FileWrite}
 use Rattle.mapt_tool.specs.declared.status.Status.{Status}
-use Rattle.mapt_tool.specs.declared.status.Status.TheVariants.{Done, Usage, ReadFault, WriteFault, SetupRefused, CaptureRefused, TooLong, NoMemory, NotBuilt}
-use Rattle.mapt_tool.specs.Planned.{Planned, after}
+use Rattle.mapt_tool.specs.declared.status.Status.TheVariants.{Done, WriteFault, NoMemory}
+use Rattle.mapt_tool.specs.Planned.{Planned, written_over}
+
+-- what is seen of the outside
+pub record Outside : Type 0 where
+  pub folder : FolderSeen
+  pub sink : SinkSeen
+
+-- the folder after these writes
+abbrev pub writing : FolderSeen → List FileWrite → FolderSeen
+writing folder writes = record folder { files = written_over folder.files writes }
 
 -- a write of this file failed: those before it are done, and all others but the named one are as before
-pub record FailedAt {F : Type 0} (files : F → Option Files) (faults : F → ℕ) (last : F → Option Failure) (old new : F) (writes : List FileWrite) (file : FileId) : Type 0 where
+pub record FailedAt (old new : FolderSeen) (writes : List FileWrite) (file : FileId) : Type 0 where
   pub front : List FileWrite
-  pub failed : FileWrite
+  pub unwritten : FileWrite
   pub back : List FileWrite
-  pub parts : writes ≡ front ++ failed ∷ back
-  pub named : failed.file ≡ file
-  pub rose : Rose (faults old) (faults new)
-  pub told : last new ≡ Some (record { file = file; way = Write })
-  pub others : SameBut failed.name (after (files old) front) (files new)
+  pub parts : writes ≡ front ++ unwritten ∷ back
+  pub named : unwritten.file ≡ file
+  pub failed : CallFailed (writing old front) new file Write
+  pub others : SameBut unwritten.name (written_over old.files front) new.files
 
 -- the first ones of the writes are done, and nothing else
-pub record Began {F : Type 0} (files : F → Option Files) (faults : F → ℕ) (old new : F) (writes : List FileWrite) : Type 0 where
+pub record Began (old new : FolderSeen) (writes : List FileWrite) : Type 0 where
   pub front : List FileWrite
   pub back : List FileWrite
   pub parts : writes ≡ front ++ back
-  pub begun : files new ≡ after (files old) front
-  pub unfailed : faults new ≡ faults old
+  pub begun : new ≡ writing old front
 
--- all writes are done
-pub record Finished {F : Type 0} (files : F → Option Files) (faults : F → ℕ) (old new : F) (writes : List FileWrite) : Type 0 where
-  pub all : files new ≡ after (files old) writes
-  pub unfailed : faults new ≡ faults old
+-- how the writing of files ended
+abbrev pub Wrote : FolderSeen → FolderSeen → List FileWrite → Status → Type 0
+Wrote old new writes Done = new ≡ writing old writes
+Wrote old new writes (WriteFault file) = FailedAt old new writes file
+Wrote old new writes NoMemory = Began old new writes
+Wrote old new writes other = ⊥
 
-abbrev pub Wrote : {F : Type 0} → (F → Option Files) → (F → ℕ) → (F → Option Failure) → F → F → List FileWrite → Status → Type 0
-Wrote files faults last old new writes Done = Finished files faults old new writes
-Wrote files faults last old new writes (WriteFault file) = FailedAt files faults last old new writes file
-Wrote files faults last old new writes NoMemory = Began files faults old new writes
-Wrote files faults last old new writes (Usage i) = ⊥
-Wrote files faults last old new writes (SetupRefused cause place) = ⊥
-Wrote files faults last old new writes (CaptureRefused refused fault) = ⊥
-Wrote files faults last old new writes (ReadFault file) = ⊥
-Wrote files faults last old new writes (TooLong file) = ⊥
-Wrote files faults last old new writes (NotBuilt file) = ⊥
+-- how the text was put
+abbrev pub Said : SinkSeen → SinkSeen → List ℕ → Status → Type 0
+Said old new text Done = new ≡ record old { written = gained old.written text }
+Said old new text (WriteFault file) = (file ≡ Report) × Rose old.faults new.faults × GainedBeginning old.written new.written text
+Said old new text NoMemory = new ≡ old
+Said old new text other = ⊥
 
--- the sink is as before
-pub record Silent {K : Type 0} (written : K → Option (List ℕ)) (faults : K → ℕ) (old new : K) : Type 0 where
-  pub same : written new ≡ written old
-  pub unfailed : faults new ≡ faults old
+-- all is done
+abbrev pub Finished : Outside → Outside → Planned → Type 0
+Finished old new plan =
+    (new.folder ≡ writing old.folder plan.writes) × (new.sink ≡ record old.sink { written = gained old.sink.written plan.text })
 
--- the sink gained exactly this text
-pub record SaidAll {K : Type 0} (written : K → Option (List ℕ)) (faults : K → ℕ) (old new : K) (text : List ℕ) : Type 0 where
-  pub gains : written new ≡ gained (written old) text
-  pub unfailed : faults new ≡ faults old
+-- a write failed: of a file, and then nothing was put on the sink, or of the text, and then all files are done
+abbrev pub Unfinished : Outside → Outside → Planned → FileId → Type 0
+Unfinished old new plan file =
+    (FailedAt old.folder new.folder plan.writes file × (new.sink ≡ old.sink))
+    ⊎ ((new.folder ≡ writing old.folder plan.writes) × Said old.sink new.sink plan.text (WriteFault file))
 
--- the sink failed, and gained a beginning of the text
-pub record SaidPart {K : Type 0} (written : K → Option (List ℕ)) (faults : K → ℕ) (old new : K) (text : List ℕ) : Type 0 where
-  pub begun : GainedBeginning (written old) (written new) text
-  pub rose : Rose (faults old) (faults new)
-
-abbrev pub Said : {K : Type 0} → (K → Option (List ℕ)) → (K → ℕ) → K → K → List ℕ → Status → Type 0
-Said written faults old new text Done = SaidAll written faults old new text
-Said written faults old new text (WriteFault file) = (file ≡ Report) × SaidPart written faults old new text
-Said written faults old new text NoMemory = Silent written faults old new
-Said written faults old new text (Usage i) = ⊥
-Said written faults old new text (SetupRefused cause place) = ⊥
-Said written faults old new text (CaptureRefused refused fault) = ⊥
-Said written faults old new text (ReadFault file) = ⊥
-Said written faults old new text (TooLong file) = ⊥
-Said written faults old new text (NotBuilt file) = ⊥
-
-abbrev pub Carried : {F K : Type 0} → (F → Option Files) → (F → ℕ) → (F → Option Failure) → (K → Option (List ℕ)) → (K → ℕ) → F → F → K → K → Planned → Status → Type 0
-Carried files faults last written sink_faults old new sink_old sink_new plan Done =
-    Finished files faults old new plan.writes × SaidAll written sink_faults sink_old sink_new plan.text
-Carried files faults last written sink_faults old new sink_old sink_new plan (WriteFault file) =
-    (FailedAt files faults last old new plan.writes file × Silent written sink_faults sink_old sink_new)
-    ⊎ ((file ≡ Report) × Finished files faults old new plan.writes × SaidPart written sink_faults sink_old sink_new plan.text)
-Carried files faults last written sink_faults old new sink_old sink_new plan NoMemory =
-    Began files faults old new plan.writes × Silent written sink_faults sink_old sink_new
-Carried files faults last written sink_faults old new sink_old sink_new plan (Usage i) = ⊥
-Carried files faults last written sink_faults old new sink_old sink_new plan (SetupRefused cause place) = ⊥
-Carried files faults last written sink_faults old new sink_old sink_new plan (CaptureRefused refused fault) = ⊥
-Carried files faults last written sink_faults old new sink_old sink_new plan (ReadFault file) = ⊥
-Carried files faults last written sink_faults old new sink_old sink_new plan (TooLong file) = ⊥
-Carried files faults last written sink_faults old new sink_old sink_new plan (NotBuilt file) = ⊥
+-- how the carrying out ended
+abbrev pub Carried : Outside → Outside → Planned → Status → Type 0
+Carried old new plan Done = Finished old new plan
+Carried old new plan (WriteFault file) = Unfinished old new plan file
+Carried old new plan NoMemory = Began old.folder new.folder plan.writes × (new.sink ≡ old.sink)
+Carried old new plan other = ⊥

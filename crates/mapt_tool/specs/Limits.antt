@@ -1,9 +1,17 @@
 -- How much is read of the outside, in octets and in records.
-use Rattle.std.specs.Prelude.{ℕ, ◌^◌}
+use Rattle.std.specs.Prelude.{ℕ, ◌^◌, min}
 
--- the longest file that is read, 64 MiB; two such files are within the 128 MiB that a command may read
+-- the longest file that is read, 64 MiB
 abbrev pub file_limit : ℕ
 file_limit = 2 ^ 26
+
+-- what all files of a command may have together, 128 MiB
+abbrev pub command_limit : ℕ
+command_limit = 2 ^ 27
+
+-- the most octets that the next file may have, where so many are left of the command's
+abbrev pub limit_of : ℕ → ℕ
+limit_of left = min file_limit left
 
 -- the records of all captures of a command
 abbrev pub record_limit : ℕ

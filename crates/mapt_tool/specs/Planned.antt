@@ -11,7 +11,11 @@ pub record Planned : Type 0 where
 abbrev pub nothing : Planned
 nothing = record { writes = []; text = [] }
 
+-- text for the sink, and no file
+abbrev pub says : List ℕ → Planned
+says text = record { writes = []; text = text }
+
 -- the files after these writes, one after the other
-abbrev pub after : Option Files → List FileWrite → Option Files
-after files [] = files
-after files (w ∷ ws) = after (put_if_told files w.name w.bytes) ws
+abbrev pub written_over : Option Files → List FileWrite → Option Files
+written_over files [] = files
+written_over files (w ∷ ws) = written_over (put_if_told files w.name w.bytes) ws

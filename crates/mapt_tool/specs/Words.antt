@@ -1,5 +1,5 @@
--- The forms of words that the program serves, and how far given words follow them.
-use Rattle.std.specs.Prelude.{ℕ, ◌+◌, ◌-◌, ◌*◌, nat_le, is_some, unwrap_or, Bool, true, not, ◌==◌, ◌&&◌, if◌then◌else◌, max, List, [], ◌∷◌, length, codes, Option, Some, None}
+-- How far given words follow the forms of the code, and what one word says.
+use Rattle.std.specs.Prelude.{ℕ, ◌+◌, ◌-◌, ◌*◌, nat_le, is_some, Bool, true, not, ◌==◌, ◌&&◌, if◌then◌else◌, max, List, [], ◌∷◌, length, codes, Option, Some, None}
 use Rattle.std.specs.Str.{bytes_eq}
 use Rattle.octets.specs.Text4.{addr4_at}
 use Rattle.mapt_tool.specs.declared.words.Verb.{Verb as VerbType}
@@ -9,6 +9,7 @@ use Rattle.mapt_tool.specs.declared.words.Kind.TheVariants.{Verb, FileName, Text
 use Rattle.mapt_tool.specs.declared.words.Command.{Command}
 use Rattle.mapt_tool.specs.declared.words.Command.TheVariants.{Replay as Replayed, Rules as Printed, Owner as Asked}
 use Rattle.mapt_tool.specs.declared.words.TheConstants.{REPLAY, RULES, OWNER}
+use Rattle.mapt_tool.specs.Request.{Request, replay, rules, owner}
 
 -- how a form's first word is written
 abbrev pub keyword_of : VerbType → List ℕ
@@ -50,11 +51,7 @@ fitting [] words = 0
 fitting (kind ∷ form) [] = 0
 fitting (kind ∷ form) (word ∷ words) = if fits kind word then fitting form words + 1 else 0
 
--- the words are of this form
-abbrev pub is_of : List Kind → List (List ℕ) → Bool
-is_of form words = (fitting form words == length form) && (length words == length form)
-
--- the forms
+-- the forms of the code
 abbrev pub forms : List (List Kind)
 forms = REPLAY ∷ RULES ∷ OWNER ∷ []
 
@@ -66,28 +63,6 @@ usage_of (form ∷ others) words = max (fitting form words) (usage_of others wor
 
 abbrev pub usage_number : List (List ℕ) → ℕ
 usage_number words = usage_of forms words
-
--- a command, by its words
-pub data Request : Type 0 where
-  replay : List ℕ → List ℕ → Request
-  rules : List ℕ → ℕ → Request
-  owner : List ℕ → ℕ → ℕ → ℕ → Request
-
--- the number that a word spells
-abbrev pub number_in : ℕ → List ℕ → ℕ
-number_in most word = unwrap_or (number_up_to most word) 0
-
-abbrev pub address_in : List ℕ → ℕ
-address_in word = unwrap_or (addr4_at word) 0
-
--- the command that the words spell
-abbrev pub request_of : List (List ℕ) → Option Request
-request_of (verb ∷ config ∷ third ∷ []) =
-    if is_of REPLAY (verb ∷ config ∷ third ∷ []) then Some (replay config third)
-    else (if is_of RULES (verb ∷ config ∷ third ∷ []) then Some (rules config (number_in most_generation third)) else None)
-request_of (verb ∷ config ∷ generation ∷ addr ∷ port ∷ []) =
-    if is_of OWNER (verb ∷ config ∷ generation ∷ addr ∷ port ∷ []) then Some (owner config (number_in most_generation generation) (address_in addr) (number_in most_port port)) else None
-request_of words = None
 
 -- a command of the code, as it is spelled
 abbrev pub seen : Command → Request

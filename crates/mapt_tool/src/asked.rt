@@ -1,13 +1,16 @@
 //! The commands that print what a configuration says.
 
-ghost use Rattle.std.specs.Prelude.{◌≡◌, ◌≤◌, map, IfOk, IfErr, OnOk, Ok};
-ghost use Rattle.mapt_tool.specs.Asked.{is_setup, configured, says, rules_said, owner_said, rules_outcome, owner_outcome};
+ghost use Rattle.std.specs.Prelude.{◌≡◌, map, IfOk};
+ghost use Rattle.outside.specs.Seen.{folder_seen};
 ghost use Rattle.rule_book.specs.Book.{rules_of};
 ghost use Rattle.rule_book.specs.Text.{owner_text};
-ghost use Rattle.mapt_tool.specs.Planning.{Tells, Stops, Answers, AnswersOne};
+ghost use Rattle.mapt_tool.specs.Course.{IsSetup, Configures, Course, rules_said, owner_said};
+ghost use Rattle.mapt_tool.specs.Ended.{Ended, Given};
+ghost use Rattle.mapt_tool.specs.Planned.{says};
+ghost use Rattle.mapt_tool.specs.Request.{rules, owner};
 
 use crate::plan::Plan;
-use crate::reading::read_text;
+use crate::reading::{COMMAND_LIMIT, read_text};
 use crate::status::{Status, status_of};
 use mapt_setup::{EdgeLine, Setup};
 use octets::{Addr4, Bytes, NoMemory, Prefix6};
@@ -17,7 +20,7 @@ use std::alloc::Global;
 
 /// The setup of these octets.
 fn setup_in(alloc: Global, text: &[u8]) -> Result<Setup, Status>
-    ensures { AnswersOne (is_setup text.now) result }
+    ensures { Given (IsSetup text.now) result }
 {
     match Setup::read(alloc, text) {
         Ok(setup) => Ok(setup),
@@ -27,14 +30,9 @@ fn setup_in(alloc: Global, text: &[u8]) -> Result<Setup, Status>
 
 /// The setup of the configuration in this file.
 fn configured<F: Folder>(alloc: Global, folder: &mut F, config: &str) -> Result<Setup, Status>
-    ensures ok { IfOk result (λ setup. Tells (F.files folder.old) (configured config.now) (Ok setup)) }
-    ensures ok_faults { OnOk result (F.faults folder.new ≡ F.faults folder.old) }
-    ensures files { F.files folder.new ≡ F.files folder.old }
-    ensures handed_rises { F.handed folder.old ≤ F.handed folder.new }
-    ensures faults_rise { F.faults folder.old ≤ F.faults folder.new }
-    ensures err { IfErr result (Stops F.files F.faults F.last F.handed folder.old folder.new (configured config.now)) }
+    ensures { Ended (Configures config.now) (folder_seen F.files F.handed F.faults F.last folder.old) (folder_seen F.files F.handed F.faults F.last folder.new) result }
 {
-    let text = match read_text(alloc, folder, FileId::Config, config) {
+    let text = match read_text(alloc, folder, FileId::Config, config, COMMAND_LIMIT) {
         Ok(text) => text,
         Err(status) => return Err(status),
     };
@@ -55,7 +53,7 @@ fn saying(alloc: Global, text: &[u8]) -> Result<Plan, NoMemory>
 
 /// What is said of the rules of a generation.
 fn rules_said(alloc: Global, setup: &Setup, generation: u32) -> Result<Plan, Status>
-    ensures { Answers (λ plan. plan) result (rules_said setup.now generation) }
+    ensures { Given (λ answer. answer ≡ rules_said setup.now generation) result }
 {
     let book = match setup.book(alloc, generation) {
         Ok(book) => book,
@@ -109,7 +107,7 @@ fn owner_said(
     addr: Addr4,
     port: u16,
 ) -> Result<Plan, Status>
-    ensures { Answers (λ plan. plan) result (owner_said setup.now generation addr.0 port) }
+    ensures { Given (λ answer. answer ≡ owner_said setup.now generation addr.0 port) result }
 {
     let book = match setup.book(alloc, generation) {
         Ok(book) => book,
@@ -126,12 +124,7 @@ pub fn rules<F: Folder>(
     config: &str,
     generation: u32,
 ) -> Result<Plan, Status>
-    ensures ok { IfOk result (λ plan. Tells (F.files folder.old) (rules_outcome config.now generation) (Ok plan)) }
-    ensures ok_faults { OnOk result (F.faults folder.new ≡ F.faults folder.old) }
-    ensures files { F.files folder.new ≡ F.files folder.old }
-    ensures handed_rises { F.handed folder.old ≤ F.handed folder.new }
-    ensures faults_rise { F.faults folder.old ≤ F.faults folder.new }
-    ensures err { IfErr result (Stops F.files F.faults F.last F.handed folder.old folder.new (rules_outcome config.now generation)) }
+    ensures { Ended (Course (rules config.now generation)) (folder_seen F.files F.handed F.faults F.last folder.old) (folder_seen F.files F.handed F.faults F.last folder.new) result }
 {
     let setup = match configured(alloc, folder, config) {
         Ok(setup) => setup,
@@ -152,12 +145,7 @@ pub fn owner<F: Folder>(
     addr: Addr4,
     port: u16,
 ) -> Result<Plan, Status>
-    ensures ok { IfOk result (λ plan. Tells (F.files folder.old) (owner_outcome config.now generation addr.0 port) (Ok plan)) }
-    ensures ok_faults { OnOk result (F.faults folder.new ≡ F.faults folder.old) }
-    ensures files { F.files folder.new ≡ F.files folder.old }
-    ensures handed_rises { F.handed folder.old ≤ F.handed folder.new }
-    ensures faults_rise { F.faults folder.old ≤ F.faults folder.new }
-    ensures err { IfErr result (Stops F.files F.faults F.last F.handed folder.old folder.new (owner_outcome config.now generation addr.0 port)) }
+    ensures { Ended (Course (owner config.now generation addr.0 port)) (folder_seen F.files F.handed F.faults F.last folder.old) (folder_seen F.files F.handed F.faults F.last folder.new) result }
 {
     let setup = match configured(alloc, folder, config) {
         Ok(setup) => setup,

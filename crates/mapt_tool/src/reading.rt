@@ -1,8 +1,9 @@
-ghost use Rattle.std.specs.Prelude.{◌≡◌, ◌≤◌, ◌<◌, ◌+◌, ◌^◌, length, IfOk, IfErr, OnOk, Ok};
-ghost use Rattle.mapt_tool.specs.Planning.{Tells, gives, Stops};
-ghost use Rattle.mapt_tool.specs.Outcome.{text_of};
-ghost use Rattle.mapt_tool.specs.Read.{HoldsFrom, IsWhole, PieceFails, ReadFails};
-ghost use Rattle.octets.specs.Count.{counted};
+ghost use Rattle.std.specs.Prelude.{◌≡◌, ◌≤◌, ◌<◌, ◌+◌, ◌^◌, length, IfOk, IfErr};
+ghost use Rattle.outside.specs.Seen.{folder_seen};
+ghost use Rattle.mapt_tool.specs.Ended.{Ended, handing};
+ghost use Rattle.mapt_tool.specs.Limits.{file_limit, command_limit, limit_of};
+ghost use Rattle.mapt_tool.specs.Pieces.{HoldsFrom, IsWhole, PieceFails};
+ghost use Rattle.mapt_tool.specs.Reading.{Reads};
 
 use crate::status::Status;
 use octets::{Bytes, NoMemory};
@@ -10,7 +11,10 @@ use outside::{FileId, Folder, OutFault};
 use std::alloc::Global;
 
 /// The longest file that is read, in octets.
-pub const FILE_LIMIT: u64 = 1 << 26;
+const FILE_LIMIT: u64 = 1 << 26;
+
+/// What all files of a command may have together, in octets.
+pub const COMMAND_LIMIT: u64 = 1 << 27;
 
 /// How many octets are asked for at a time.
 const PIECE: usize = 65_536;
@@ -37,12 +41,8 @@ fn read_piece<F: Folder>(
     ensures longer { IfOk result (λ n. length bytes.new ≡ length bytes.old + n) }
     ensures holds { IfOk result (λ n. HoldsFrom (F.files folder.old) name.now bytes.old → HoldsFrom (F.files folder.old) name.now bytes.new) }
     ensures ended { IfOk result (λ n. n ≡ 0 → 0 < length piece.old → HoldsFrom (F.files folder.old) name.now bytes.old → IsWhole (F.files folder.old) name.now bytes.new) }
-    ensures files { F.files folder.new ≡ F.files folder.old }
-    ensures counted { IfOk result (λ n. F.handed folder.new ≡ counted (F.handed folder.old) n) }
-    ensures ok_faults { OnOk result (F.faults folder.new ≡ F.faults folder.old) }
-    ensures handed_rises { F.handed folder.old ≤ F.handed folder.new }
-    ensures faults_rise { F.faults folder.old ≤ F.faults folder.new }
-    ensures err { IfErr result (PieceFails F.faults F.last folder.old folder.new file) }
+    ensures seen { IfOk result (λ n. folder_seen F.files F.handed F.faults F.last folder.new ≡ handing (folder_seen F.files F.handed F.faults F.last folder.old) n) }
+    ensures err { IfErr result (PieceFails (folder_seen F.files F.handed F.faults F.last folder.old) (folder_seen F.files F.handed F.faults F.last folder.new) file (length piece.old)) }
 {
     let offset = bytes.as_slice().len() as u64;
     let count = match folder.read_at(alloc, file, name, offset, piece) {
@@ -55,7 +55,7 @@ fn read_piece<F: Folder>(
 }
 
 /// Reads a file to its end, unless it has more octets than `limit`: then one more is read, and no further.
-pub fn read_whole<F: Folder>(
+fn read_whole<F: Folder>(
     alloc: Global,
     folder: &mut F,
     file: FileId,
@@ -63,14 +63,7 @@ pub fn read_whole<F: Folder>(
     limit: u64,
 ) -> Result<Bytes, Status>
     requires { limit ≤ FILE_LIMIT }
-    ensures whole { IfOk result (IsWhole (F.files folder.old) name.now) }
-    ensures short { IfOk result (λ bytes. length bytes ≤ limit) }
-    ensures counted { IfOk result (λ bytes. F.handed folder.new ≡ counted (F.handed folder.old) (length bytes)) }
-    ensures ok_faults { OnOk result (F.faults folder.new ≡ F.faults folder.old) }
-    ensures files { F.files folder.new ≡ F.files folder.old }
-    ensures handed_rises { F.handed folder.old ≤ F.handed folder.new }
-    ensures faults_rise { F.faults folder.old ≤ F.faults folder.new }
-    ensures err { IfErr result (ReadFails F.files F.faults F.last F.handed folder.old folder.new file name.now limit) }
+    ensures { Ended (Reads file name.now limit) (folder_seen F.files F.handed F.faults F.last folder.old) (folder_seen F.files F.handed F.faults F.last folder.new) result }
 {
     let mut bytes = Bytes::new(alloc);
     let mut piece = zeros(alloc, PIECE)?;
@@ -80,28 +73,26 @@ pub fn read_whole<F: Folder>(
             return Err(Status::TooLong(file));
         }
         let asked = (limit + 1 - len).min(PIECE as u64) as usize;
-        if read_piece(alloc, folder, file, name, &mut bytes, &mut piece[..asked])? == 0 {
-            return Ok(bytes);
+        match read_piece(alloc, folder, file, name, &mut bytes, &mut piece[..asked]) {
+            Ok(0) => return Ok(bytes),
+            Ok(_) => {}
+            Err(status) => return Err(status),
         }
     }
 }
 
-/// Reads a file of the command, of at most 64 MiB.
+/// Reads a file of the command, of at most 64 MiB, where the command may still read `left` octets.
 pub fn read_text<F: Folder>(
     alloc: Global,
     folder: &mut F,
     file: FileId,
     name: &str,
+    left: u64,
 ) -> Result<Bytes, Status>
-    ensures ok { IfOk result (λ text. Tells (F.files folder.old) (gives (λ m. text_of m file name.now)) (Ok text)) }
-    ensures ok_faults { OnOk result (F.faults folder.new ≡ F.faults folder.old) }
-    ensures short { IfOk result (λ text. length text ≤ FILE_LIMIT) }
-    ensures files { F.files folder.new ≡ F.files folder.old }
-    ensures handed_rises { F.handed folder.old ≤ F.handed folder.new }
-    ensures faults_rise { F.faults folder.old ≤ F.faults folder.new }
-    ensures err { IfErr result (Stops F.files F.faults F.last F.handed folder.old folder.new (gives (λ m. text_of m file name.now))) }
+    ensures ended { Ended (Reads file name.now (limit_of left)) (folder_seen F.files F.handed F.faults F.last folder.old) (folder_seen F.files F.handed F.faults F.last folder.new) result }
+    ensures short { IfOk result (λ text. length text ≤ limit_of left) }
 {
-    match read_whole(alloc, folder, file, name, FILE_LIMIT) {
+    match read_whole(alloc, folder, file, name, left.min(FILE_LIMIT)) {
         Ok(text) => Ok(text),
         Err(status) => Err(status),
     }

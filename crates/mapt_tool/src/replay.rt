@@ -1,14 +1,15 @@
-ghost use Rattle.std.specs.Prelude.{◌≡◌, length, IsTrue, IfOk, IfErr, OnOk, All, map, ◌++◌, ◌∷◌, [], ◌≤◌, Ok};
+ghost use Rattle.std.specs.Prelude.{◌≡◌, ◌-◌, ◌^◌, length, IsTrue, IfOk, OnOk, All, map, ◌++◌, ◌≤◌};
 ghost use Rattle.std.specs.List.{list_all};
+ghost use Rattle.outside.specs.Seen.{folder_seen};
 ghost use Rattle.pcap_files.specs.Written.{written, IsWritable};
+ghost use Rattle.mapt_tool.specs.Ended.{Ended, Given};
 ghost use Rattle.mapt_tool.specs.Home.{is_served, Stands};
-ghost use Rattle.mapt_tool.specs.Planning.{Tells, gives, Stops, Answers};
-ghost use Rattle.mapt_tool.specs.Outcome.{packet_of, times_from, have_one_source, are_served, outward_record, access_file, home_only, lan_records, planned_of, with_lan, replayed};
+ghost use Rattle.mapt_tool.specs.Replay.{packet_of, times_from, have_one_source, are_served, outward_record, access_file, home_only, lan_records, planned_of, ReplaysLan, ReplaysText, ReplaysHome};
 
 use crate::config::{ACCESS_SUFFIX, HOME_CONFIG, HOME_LAN};
 use crate::home::{is_served, outward, packet_in, same_source};
 use crate::plan::{FileWrite, Plan};
-use crate::reading::{FILE_LIMIT, read_text};
+use crate::reading::{COMMAND_LIMIT, read_text};
 use crate::status::Status;
 use octets::{Bytes, Name, NoMemory};
 use outside::{FileId, Folder};
@@ -79,10 +80,10 @@ fn are_served(records: &[Record]) -> bool
 }
 
 /// The records of the LAN capture, where they are replayed.
-#[tactic(auto, unfolding(crate::specs::Outcome::served_only, crate::specs::Outcome::lan_records))]
+#[tactic(auto, unfolding(crate::specs::Replay::served_only, crate::specs::Replay::lan_records))]
 fn served_records(alloc: Global, octets: &[u8]) -> Result<Records, Status>
-    requires { length octets.now ≤ FILE_LIMIT }
-    ensures records { Answers (λ r. r) result (lan_records octets.now) }
+    requires { length octets.now ≤ 2 ^ 26 }
+    ensures records { Given (λ answer. answer ≡ lan_records octets.now) result }
     ensures stand { IfOk result (All (λ r. Stands (packet_of r))) }
     ensures writable { IfOk result (All IsWritable) }
 {
@@ -136,10 +137,10 @@ fn access_file(alloc: Global, prefix: &str, records: &[Record]) -> Result<FileWr
 }
 
 /// What a replay writes, by its LAN capture.
-#[tactic(auto, unfolding(crate::specs::Outcome::planned_of))]
+#[tactic(auto, unfolding(crate::specs::Replay::planned_of))]
 fn planned_of(alloc: Global, prefix: &str, octets: &[u8]) -> Result<Plan, Status>
-    requires { length octets.now ≤ FILE_LIMIT }
-    ensures { Answers (λ plan. plan) result (planned_of prefix.now octets.now) }
+    requires { length octets.now ≤ 2 ^ 26 }
+    ensures { Given (λ answer. answer ≡ planned_of prefix.now octets.now) result }
 {
     let records = served_records(alloc, octets)?;
     let mut plan = Plan::new(alloc);
@@ -148,9 +149,9 @@ fn planned_of(alloc: Global, prefix: &str, octets: &[u8]) -> Result<Plan, Status
 }
 
 /// Whether the text is the one configuration that is replayed.
-#[tactic(auto, unfolding(crate::specs::Outcome::home_only))]
+#[tactic(auto, unfolding(crate::specs::Replay::home_only, crate::specs::Replay::home_config))]
 fn home_only(text: &[u8]) -> Result<(), Status>
-    ensures { Answers (λ _. text.now) result (home_only text.now) }
+    ensures { Given (λ answer. answer ≡ home_only text.now) result }
 {
     if text == HOME_CONFIG {
         Ok(())
@@ -160,20 +161,36 @@ fn home_only(text: &[u8]) -> Result<(), Status>
 }
 
 /// Reads the LAN capture, and plans what is written.
-fn with_lan<F: Folder>(alloc: Global, folder: &mut F, prefix: &str) -> Result<Plan, Status>
-    ensures ok { IfOk result (λ plan. Tells (F.files folder.old) (gives (with_lan prefix.now)) (Ok plan)) }
-    ensures ok_faults { OnOk result (F.faults folder.new ≡ F.faults folder.old) }
-    ensures files { F.files folder.new ≡ F.files folder.old }
-    ensures handed_rises { F.handed folder.old ≤ F.handed folder.new }
-    ensures faults_rise { F.faults folder.old ≤ F.faults folder.new }
-    ensures err { IfErr result (Stops F.files F.faults F.last F.handed folder.old folder.new (gives (with_lan prefix.now))) }
+fn with_lan<F: Folder>(
+    alloc: Global,
+    folder: &mut F,
+    prefix: &str,
+    left: u64,
+) -> Result<Plan, Status>
+    ensures { Ended (ReplaysLan prefix.now left) (folder_seen F.files F.handed F.faults F.last folder.old) (folder_seen F.files F.handed F.faults F.last folder.new) result }
 {
-    let octets = match read_text(alloc, folder, FileId::InLan(0), HOME_LAN) {
+    let octets = match read_text(alloc, folder, FileId::InLan(0), HOME_LAN, left) {
         Ok(octets) => octets,
         Err(status) => return Err(status),
     };
     match planned_of(alloc, prefix, octets.as_slice()) {
         Ok(plan) => Ok(plan),
+        Err(status) => Err(status),
+    }
+}
+
+/// Replays the configuration of these octets, where the command may still read `left` octets.
+fn with_text<F: Folder>(
+    alloc: Global,
+    folder: &mut F,
+    prefix: &str,
+    left: u64,
+    text: &[u8],
+) -> Result<Plan, Status>
+    ensures { Ended (ReplaysText prefix.now left text.now) (folder_seen F.files F.handed F.faults F.last folder.old) (folder_seen F.files F.handed F.faults F.last folder.new) result }
+{
+    match home_only(text) {
+        Ok(()) => with_lan(alloc, folder, prefix, left),
         Err(status) => Err(status),
     }
 }
@@ -185,23 +202,12 @@ pub fn replay<F: Folder>(
     config: &str,
     prefix: &str,
 ) -> Result<Plan, Status>
-    ensures ok { IfOk result (λ plan. Tells (F.files folder.old) (gives (replayed config.now prefix.now)) (Ok plan)) }
-    ensures ok_faults { OnOk result (F.faults folder.new ≡ F.faults folder.old) }
-    ensures files { F.files folder.new ≡ F.files folder.old }
-    ensures handed_rises { F.handed folder.old ≤ F.handed folder.new }
-    ensures faults_rise { F.faults folder.old ≤ F.faults folder.new }
-    ensures err { IfErr result (Stops F.files F.faults F.last F.handed folder.old folder.new (gives (replayed config.now prefix.now))) }
+    ensures { Ended (ReplaysHome config.now prefix.now) (folder_seen F.files F.handed F.faults F.last folder.old) (folder_seen F.files F.handed F.faults F.last folder.new) result }
 {
-    let text = match read_text(alloc, folder, FileId::Config, config) {
+    let text = match read_text(alloc, folder, FileId::Config, config, COMMAND_LIMIT) {
         Ok(text) => text,
         Err(status) => return Err(status),
     };
-    match home_only(text.as_slice()) {
-        Ok(()) => {}
-        Err(status) => return Err(status),
-    }
-    match with_lan(alloc, folder, prefix) {
-        Ok(plan) => Ok(plan),
-        Err(status) => Err(status),
-    }
+    let left = COMMAND_LIMIT - text.as_slice().len() as u64;
+    with_text(alloc, folder, prefix, left, text.as_slice())
 }

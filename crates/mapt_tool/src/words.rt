@@ -1,8 +1,10 @@
-ghost use Rattle.std.specs.Prelude.{◌≡◌, ℕ, length, map, ◌≤◌, IfOk, IfErr, IfSome, IfNone, OnErr, Some, None};
+ghost use Rattle.std.specs.Prelude.{◌≡◌, ◌≢◌, ◌↔◌, ℕ, List, [], ◌∷◌, length, map, ◌≤◌, ◌<◌, ◌^◌, IsTrue, IfOk, IfErr, IfSome, IfNone};
+ghost use Rattle.std.specs.Fmt.{decimal};
 ghost use Rattle.std.specs.Option.{option_map};
-ghost use Rattle.octets.specs.Text4.{addr4_at};
 ghost use Rattle.std.specs.String.{string_bytes};
-ghost use Rattle.mapt_tool.specs.Words.{keyword_of, digits_up_to, number_up_to, number_in, address_in, fits, fitting, is_of, usage_number, request_of, seen};
+ghost use Rattle.octets.specs.Text4.{text4, addr4_at};
+ghost use Rattle.mapt_tool.specs.Request.{Request, replay, rules, owner, Asks, IsUsage};
+ghost use Rattle.mapt_tool.specs.Words.{keyword_of, digits_up_to, number_up_to, fits, fitting, usage_number, seen};
 
 use octets::{Addr4, read_addr4};
 
@@ -104,9 +106,20 @@ fn number_up_to(most: u32, word: &[u8]) -> Option<u32>
     }
 }
 
+/// The number up to the most that the word spells, by its decimal digits.
+fn number_in(most: u32, word: &str) -> Option<u32>
+    requires { most ≤ 65535 }
+    ensures found { IfSome result (λ n. (n ≤ most) × (word.now ≡ decimal n)) }
+    ensures none { IfNone result ((n : ℕ) → n ≤ most → word.now ≡ decimal n → ⊥) }
+{
+    number_up_to(most, word.as_bytes())
+}
+
 /// The IPv4 address that the word spells.
 fn address_of(word: &[u8]) -> Option<Addr4>
-    ensures { option_map (λ addr. addr.0) result ≡ addr4_at word.now }
+    ensures value { option_map (λ addr. addr.0) result ≡ addr4_at word.now }
+    ensures found { IfSome result (λ addr. (addr.0 < 2 ^ 32) × (word.now ≡ text4 addr.0)) }
+    ensures none { IfNone result ((addr : ℕ) → addr < 2 ^ 32 → word.now ≡ text4 addr → ⊥) }
 {
     match read_addr4(word) {
         Ok(addr) => Some(addr),
@@ -181,97 +194,111 @@ pub fn usage(words: &[String]) -> u32
     replay.max(rules.max(owner))
 }
 
-/// Whether the words are of this form.
-fn is_of(form: &[Kind], words: &[String]) -> bool
-    requires { length form.now ≤ 16 }
-    ensures { result ≡ is_of form.now (map string_bytes words.now) }
+/// Whether the word is this verb.
+fn is_verb(word: &str, verb: Verb) -> bool
+    ensures { IsTrue result ↔ (word.now ≡ keyword_of verb) }
 {
-    let count = fitting(form, words) as usize;
-    count == form.len() && words.len() == form.len()
+    word == verb.keyword()
 }
 
-/// The number that the word spells, and 0 where it spells none.
-fn number_in(most: u32, word: &str) -> u32
-    requires { most ≤ 65535 }
-    ensures value { result ≡ number_in most word.now }
-    ensures most { result ≤ most }
+/// Whether the word names a file.
+fn is_file_name(word: &str) -> bool
+    ensures { IsTrue result ↔ (word.now ≢ []) }
 {
-    match number_up_to(most, word.as_bytes()) {
-        Some(number) => number,
-        None => 0,
+    !word.is_empty()
+}
+
+/// The command `replay` of these words, if they spell it.
+fn replay_of<'a>(verb: &str, config: &'a str, prefix: &'a str) -> Option<Command<'a>>
+    ensures found { IfSome result (λ command. Asks (verb.now ∷ config.now ∷ prefix.now ∷ []) (seen command)) }
+    ensures none { IfNone result ((named begin : List ℕ) → Asks (verb.now ∷ config.now ∷ prefix.now ∷ []) (replay named begin) → ⊥) }
+{
+    if is_verb(verb, Verb::Replay) && is_file_name(config) {
+        Some(Command::Replay { config, prefix })
+    } else {
+        None
     }
 }
 
-/// The address that the word spells, and 0.0.0.0 where it spells none.
-fn address_in(word: &str) -> Addr4
-    ensures { result.0 ≡ address_in word.now }
+/// The command `rules` of these words, if they spell it.
+fn rules_of<'a>(verb: &str, config: &'a str, generation: &str) -> Option<Command<'a>>
+    ensures found { IfSome result (λ command. Asks (verb.now ∷ config.now ∷ generation.now ∷ []) (seen command)) }
+    ensures none { IfNone result ((named : List ℕ) (number : ℕ) → Asks (verb.now ∷ config.now ∷ generation.now ∷ []) (rules named number) → ⊥) }
 {
-    match address_of(word.as_bytes()) {
-        Some(addr) => addr,
-        None => Addr4(0),
+    if !(is_verb(verb, Verb::Rules) && is_file_name(config)) {
+        return None;
     }
+    match number_in(MOST_GENERATION, generation) {
+        Some(generation) => Some(Command::Rules { config, generation }),
+        None => None,
+    }
+}
+
+/// The command `owner` of these words, if they spell it.
+fn owner_of<'a>(
+    verb: &str,
+    config: &'a str,
+    generation: &str,
+    addr: &str,
+    port: &str,
+) -> Option<Command<'a>>
+    ensures found { IfSome result (λ command. Asks (verb.now ∷ config.now ∷ generation.now ∷ addr.now ∷ port.now ∷ []) (seen command)) }
+    ensures none { IfNone result ((request : Request) → Asks (verb.now ∷ config.now ∷ generation.now ∷ addr.now ∷ port.now ∷ []) request → ⊥) }
+{
+    if !(is_verb(verb, Verb::Owner) && is_file_name(config)) {
+        return None;
+    }
+    let (Some(generation), Some(addr), Some(port)) = (
+        number_in(MOST_GENERATION, generation),
+        address_of(addr.as_bytes()),
+        number_in(MOST_PORT, port),
+    ) else {
+        return None;
+    };
+    Some(Command::Owner {
+        config,
+        generation,
+        addr,
+        port: port as u16,
+    })
 }
 
 /// The command that three words spell, if they spell one.
-fn command_of_three(words: &[String]) -> Option<Command<'_>>
-    ensures command { IfSome result (λ command. request_of (map string_bytes words.now) ≡ Some (seen command)) }
-    ensures none { length words.now ≡ 3 → IfNone result (request_of (map string_bytes words.now) ≡ None) }
+fn command_of_three<'a>(verb: &str, config: &'a str, third: &'a str) -> Option<Command<'a>>
+    ensures found { IfSome result (λ command. Asks (verb.now ∷ config.now ∷ third.now ∷ []) (seen command)) }
+    ensures none { IfNone result ((request : Request) → Asks (verb.now ∷ config.now ∷ third.now ∷ []) request → ⊥) }
 {
-    let [_verb, config, third] = words else {
-        return None;
-    };
-    if is_of(&REPLAY, words) {
-        return Some(Command::Replay {
-            config: config.as_str(),
-            prefix: third.as_str(),
-        });
+    match replay_of(verb, config, third) {
+        Some(command) => Some(command),
+        None => rules_of(verb, config, third),
     }
-    if is_of(&RULES, words) {
-        return Some(Command::Rules {
-            config: config.as_str(),
-            generation: number_in(MOST_GENERATION, third.as_str()),
-        });
-    }
-    None
 }
 
-/// The command that five words spell, if they spell one.
-fn command_of_five(words: &[String]) -> Option<Command<'_>>
-    ensures command { IfSome result (λ command. request_of (map string_bytes words.now) ≡ Some (seen command)) }
-    ensures none { length words.now ≡ 5 → IfNone result (request_of (map string_bytes words.now) ≡ None) }
+/// The command that the words spell, if they spell one.
+fn command_in(words: &[String]) -> Option<Command<'_>>
+    ensures found { IfSome result (λ command. Asks (map string_bytes words.now) (seen command)) }
+    ensures none { IfNone result ((request : Request) → Asks (map string_bytes words.now) request → ⊥) }
 {
-    let [_verb, config, generation, addr, port] = words else {
-        return None;
-    };
-    if is_of(&OWNER, words) {
-        return Some(Command::Owner {
-            config: config.as_str(),
-            generation: number_in(MOST_GENERATION, generation.as_str()),
-            addr: address_in(addr.as_str()),
-            port: number_in(MOST_PORT, port.as_str()) as u16,
-        });
+    match words {
+        [verb, config, third] => command_of_three(verb.as_str(), config.as_str(), third.as_str()),
+        [verb, config, generation, addr, port] => owner_of(
+            verb.as_str(),
+            config.as_str(),
+            generation.as_str(),
+            addr.as_str(),
+            port.as_str(),
+        ),
+        _ => None,
     }
-    None
 }
 
 /// The command that the words spell, or the number of Usage.
 pub fn command_of(words: &[String]) -> Result<Command<'_>, u32>
-    ensures command { IfOk result (λ command. request_of (map string_bytes words.now) ≡ Some (seen command)) }
-    ensures none { OnErr result (request_of (map string_bytes words.now) ≡ None) }
-    ensures number { IfErr result (λ number. number ≡ usage_number (map string_bytes words.now)) }
+    ensures found { IfOk result (λ command. Asks (map string_bytes words.now) (seen command)) }
+    ensures none { IfErr result (IsUsage (map string_bytes words.now)) }
 {
-    let number = usage(words);
-    if words.len() == 3 {
-        return match command_of_three(words) {
-            Some(command) => Ok(command),
-            None => Err(number),
-        };
+    match command_in(words) {
+        Some(command) => Ok(command),
+        None => Err(usage(words)),
     }
-    if words.len() == 5 {
-        return match command_of_five(words) {
-            Some(command) => Ok(command),
-            None => Err(number),
-        };
-    }
-    Err(number)
 }

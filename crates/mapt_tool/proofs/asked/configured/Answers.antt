@@ -1,22 +1,31 @@
-use Rattle.std.proofs.Common.{Err, subst}
+use Rattle.std.proofs.Common.{ℕ, List, Ok, Err, subst}
+use Rattle.outside.specs.Seen.{folder_seen}
 use Rattle.outside.specs.declared.file_id.FileId.TheVariants.{Config}
-use Rattle.mapt_tool.specs.Asked.{is_setup}
-use Rattle.mapt_tool.specs.Outcome.{text_of}
-use Rattle.mapt_tool.specs.Planning.{gives, AnswersOne}
-use Rattle.mapt_tool.proofs.Steps.{tells_after, stops_before, stops_after}
+use Rattle.mapt_tool.specs.Course.{IsSetup}
+use Rattle.mapt_tool.specs.Ended.{Given}
+use Rattle.mapt_tool.specs.Limits.{limit_of, command_limit}
+use Rattle.mapt_tool.specs.Reading.{Reads, Answers}
+use Rattle.mapt_tool.proofs.Steps.{ends_first, ends_then, ends_here}
 use Rattle.mapt_tool.proofs.asked.configured.Goals as goal
 
-pub returns-in-Err-clause-err : goal.returns-in-Err-clause-err
-returns-in-Err-clause-err g c =
+pub returns-in-Err : goal.returns-in-Err
+returns-in-Err g c =
     let folder = g.F.Folder in
-    stops_before folder.files folder.faults folder.last folder.handed c.args.folder.now c.read_text.new.folder (gives (λ m. text_of m Config c.args.config.now)) is_setup c.in-Err.status c.in-Err.ensures.err
+    let seen = folder_seen folder.files folder.handed folder.faults folder.last in
+    ends_first (Reads Config c.args.config.now (limit_of command_limit)) (λ text. Answers (IsSetup text)) (seen c.args.folder.now) (seen c.read_text.new.folder) c.in-Err.status c.in-Err.ensures.ended
 
-pub returns-in-Ok-setup_in-clause-ok : goal.returns-in-Ok-setup_in-clause-ok
-returns-in-Ok-setup_in-clause-ok g c =
-    tells_after (g.F.Folder.files c.args.folder.now) (gives (λ m. text_of m Config c.args.config.now)) is_setup c.in-Ok.text c.in-Ok-setup_in.setup c.in-Ok.ensures.ok (rw c.as_slice.ensures at c.in-Ok-setup_in.ensures)
-
-pub returns-clause-err : goal.returns-clause-err
-returns-clause-err g c =
+pub returns-in-Ok-setup_in : goal.returns-in-Ok-setup_in
+returns-in-Ok-setup_in g c =
     let folder = g.F.Folder in
-    stops_after folder.files folder.faults folder.last folder.handed c.args.folder.now c.read_text.new.folder (gives (λ m. text_of m Config c.args.config.now)) is_setup c.in-Ok.text c.in-Err-setup_in.status c.in-Ok.ensures.ok_faults c.in-Ok.ensures.ok
-    (subst (λ text. AnswersOne (is_setup text) (Err c.in-Err-setup_in.status)) c.as_slice.ensures c.in-Err-setup_in.ensures)
+    let seen = folder_seen folder.files folder.handed folder.faults folder.last in
+    let mid = seen c.read_text.new.folder in
+    ends_then (Reads Config c.args.config.now (limit_of command_limit)) (λ text. Answers (IsSetup text)) (seen c.args.folder.now) mid mid c.in-Ok.text (Ok c.in-Ok-setup_in.setup) c.in-Ok.ensures.ended
+    (ends_here (IsSetup c.in-Ok.text) mid (Ok c.in-Ok-setup_in.setup) (subst (λ (text : List ℕ). Given (IsSetup text) (Ok c.in-Ok-setup_in.setup)) c.as_slice.ensures c.in-Ok-setup_in.ensures))
+
+pub returns : goal.returns
+returns g c =
+    let folder = g.F.Folder in
+    let seen = folder_seen folder.files folder.handed folder.faults folder.last in
+    let mid = seen c.read_text.new.folder in
+    ends_then (Reads Config c.args.config.now (limit_of command_limit)) (λ text. Answers (IsSetup text)) (seen c.args.folder.now) mid mid c.in-Ok.text (Err c.in-Err-setup_in.status) c.in-Ok.ensures.ended
+    (ends_here (IsSetup c.in-Ok.text) mid (Err c.in-Err-setup_in.status) (subst (λ (text : List ℕ). Given (IsSetup text) (Err c.in-Err-setup_in.status)) c.as_slice.ensures c.in-Err-setup_in.ensures))

@@ -1,18 +1,28 @@
-use Rattle.std.proofs.Common.{◌≡◌}
-use Rattle.mapt_tool.specs.Asked.{configured, rules_said}
-use Rattle.mapt_tool.proofs.Steps.{tells_after, stops_before, stops_after, one_answer}
+use Rattle.std.proofs.Common.{◌≡◌, Ok, Err}
+use Rattle.outside.specs.Seen.{folder_seen}
+use Rattle.mapt_tool.specs.Course.{Configures, rules_said}
+use Rattle.mapt_tool.specs.Reading.{Answers}
+use Rattle.mapt_tool.proofs.Steps.{ends_first, ends_then, ends_here}
 use Rattle.mapt_tool.proofs.asked.rules.Goals as goal
 
-pub returns-in-Err-clause-err : goal.returns-in-Err-clause-err
-returns-in-Err-clause-err g c =
+pub returns-in-Err : goal.returns-in-Err
+returns-in-Err g c =
     let folder = g.F.Folder in
-    stops_before folder.files folder.faults folder.last folder.handed c.args.folder.now c.configured.new.folder (configured c.args.config.now) (λ setup answer. rules_said setup c.args.generation ≡ answer) c.in-Err.status c.in-Err.ensures.err
+    let seen = folder_seen folder.files folder.handed folder.faults folder.last in
+    ends_first (Configures c.args.config.now) (λ setup. Answers (λ answer. answer ≡ rules_said setup c.args.generation)) (seen c.args.folder.now) (seen c.configured.new.folder) c.in-Err.status c.in-Err.ensures
 
-pub returns-in-Ok-rules_said-clause-ok : goal.returns-in-Ok-rules_said-clause-ok
-returns-in-Ok-rules_said-clause-ok g c =
-    tells_after (g.F.Folder.files c.args.folder.now) (configured c.args.config.now) (λ setup answer. rules_said setup c.args.generation ≡ answer) c.in-Ok.setup c.in-Ok-rules_said.plan c.in-Ok.ensures.ok c.in-Ok-rules_said.ensures
-
-pub returns-clause-err : goal.returns-clause-err
-returns-clause-err g c =
+pub returns-in-Ok-rules_said : goal.returns-in-Ok-rules_said
+returns-in-Ok-rules_said g c =
     let folder = g.F.Folder in
-    stops_after folder.files folder.faults folder.last folder.handed c.args.folder.now c.configured.new.folder (configured c.args.config.now) (λ setup answer. rules_said setup c.args.generation ≡ answer) c.in-Ok.setup c.in-Err-rules_said.status c.in-Ok.ensures.ok_faults c.in-Ok.ensures.ok (one_answer (λ plan. plan) (rules_said c.in-Ok.setup c.args.generation) c.in-Err-rules_said.status c.in-Err-rules_said.ensures)
+    let seen = folder_seen folder.files folder.handed folder.faults folder.last in
+    let mid = seen c.configured.new.folder in
+    ends_then (Configures c.args.config.now) (λ setup. Answers (λ answer. answer ≡ rules_said setup c.args.generation)) (seen c.args.folder.now) mid mid c.in-Ok.setup (Ok c.in-Ok-rules_said.plan) c.in-Ok.ensures
+    (ends_here (λ answer. answer ≡ rules_said c.in-Ok.setup c.args.generation) mid (Ok c.in-Ok-rules_said.plan) c.in-Ok-rules_said.ensures)
+
+pub returns : goal.returns
+returns g c =
+    let folder = g.F.Folder in
+    let seen = folder_seen folder.files folder.handed folder.faults folder.last in
+    let mid = seen c.configured.new.folder in
+    ends_then (Configures c.args.config.now) (λ setup. Answers (λ answer. answer ≡ rules_said setup c.args.generation)) (seen c.args.folder.now) mid mid c.in-Ok.setup (Err c.in-Err-rules_said.status) c.in-Ok.ensures
+    (ends_here (λ answer. answer ≡ rules_said c.in-Ok.setup c.args.generation) mid (Err c.in-Err-rules_said.status) c.in-Err-rules_said.ensures)

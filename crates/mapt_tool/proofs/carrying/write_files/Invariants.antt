@@ -1,8 +1,10 @@
-use Rattle.std.proofs.Common.{take}
-use Rattle.mapt_tool.specs.Carried.{Finished}
+use Rattle.std.proofs.Common.{◌≡◌, take}
+use Rattle.outside.specs.Seen.{folder_seen}
+use Rattle.mapt_tool.specs.Carried.{writing}
 use Rattle.mapt_tool.proofs.carrying.write_files.Given as goal
 
 abbrev pub invariant-loop-write : goal.invariant-loop-write
 invariant-loop-write g l =
     let folder = g.F.Folder in
-    Finished folder.files folder.faults l.fn.folder l.folder (take l.write-index l.writes)
+    let seen = folder_seen folder.files folder.handed folder.faults folder.last in
+    seen l.folder ≡ writing (seen l.fn.folder) (take l.write-index l.writes)

@@ -1,11 +1,13 @@
 use Rattle.std.proofs.Common.{◌+◌, ◌-◌, length}
+use Rattle.outside.specs.Seen.{folder_seen}
 use Rattle.mapt_tool.proofs.Pieces.{HasRead}
 use Rattle.mapt_tool.proofs.reading.read_whole.Given as goal
 
 abbrev pub invariant-pieces : goal.invariant-pieces
 invariant-pieces g l =
     let folder = g.F.Folder in
-    HasRead folder.files folder.handed folder.faults l.fn.folder l.folder l.name l.bytes l.limit (length l.piece.items)
+    let seen = folder_seen folder.files folder.handed folder.faults folder.last in
+    HasRead (seen l.fn.folder) (seen l.folder) l.name l.bytes l.limit (length l.piece.items)
 
 abbrev pub decreases-pieces : goal.decreases-pieces
 decreases-pieces g l = l.limit + 1 - length l.bytes

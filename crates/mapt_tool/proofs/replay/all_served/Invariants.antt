@@ -1,7 +1,7 @@
 use Rattle.std.proofs.Common.{◌≡◌, drop}
 use Rattle.std.specs.List.{list_all}
 use Rattle.mapt_tool.specs.Home.{is_served}
-use Rattle.mapt_tool.specs.Outcome.{packet_of}
+use Rattle.mapt_tool.specs.Replay.{packet_of}
 use Rattle.mapt_tool.proofs.replay.all_served.Given as goal
 
 abbrev pub invariant-loop-record : goal.invariant-loop-record

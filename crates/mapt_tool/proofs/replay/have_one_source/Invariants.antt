@@ -1,7 +1,7 @@
 use Rattle.std.proofs.Common.{◌≡◌, drop}
 use Rattle.std.specs.List.{list_all}
 use Rattle.mapt_tool.specs.Home.{same_source}
-use Rattle.mapt_tool.specs.Outcome.{packet_of}
+use Rattle.mapt_tool.specs.Replay.{packet_of}
 use Rattle.mapt_tool.proofs.replay.have_one_source.Given as goal
 
 abbrev pub invariant-loop-other : goal.invariant-loop-other

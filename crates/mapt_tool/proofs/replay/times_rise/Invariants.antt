@@ -1,5 +1,5 @@
 use Rattle.std.proofs.Common.{◌≡◌, drop}
-use Rattle.mapt_tool.specs.Outcome.{times_from}
+use Rattle.mapt_tool.specs.Replay.{times_from}
 use Rattle.mapt_tool.proofs.replay.times_rise.Given as goal
 
 abbrev pub invariant-loop-record : goal.invariant-loop-record

@@ -1,0 +1,78 @@
+-- A command reads no file that may have less than 64 MiB, unless it has read more than 64 MiB before.
+use Rattle.std.proofs.Common.{◌≡◌, ◌⊎◌, ℕ, ◌+◌, ◌-◌, ◌≤◌, ◌<◌, List, [], ◌∷◌, ◌++◌, length, Result, refl, sym, ap, subst, ◌∙◌, inl, inr, arith}
+use Rattle.std.specs.Prelude.{codes}
+use Rattle.outside.specs.declared.file_id.FileId.{FileId}
+use Rattle.outside.specs.declared.file_id.FileId.TheVariants.{Config, InLan}
+use Rattle.mapt_setup.specs.declared.setup.Setup.{Setup}
+use Rattle.mapt_tool.specs.declared.status.Status.{Status}
+use Rattle.mapt_tool.specs.Course.{IsSetup, Configures, rules_said, owner_said, Course}
+use Rattle.mapt_tool.specs.Limits.{file_limit, command_limit, limit_of}
+use Rattle.mapt_tool.specs.Planned.{Planned}
+use Rattle.mapt_tool.specs.Reading.{Read, Next, gives, refuses, wants, lacks, octets_of, Answers, Reads, Goes, Then}
+use Rattle.mapt_tool.specs.Replay.{home_only, planned_of, ReplaysLan, ReplaysText, ReplaysHome}
+use Rattle.mapt_tool.specs.Request.{Request, replay, rules, owner}
+use Rattle.mapt_tool.proofs.Steps.{octets_of-append}
+
+-- where `left` octets of the command's are left at first, each file may have what is left of 64 MiB or of these
+abbrev pub IsBounded : {A : Type 0} → ℕ → (List Read → Next A Status → Type 0) → Type 0
+IsBounded left Step = (reads : List Read) (file : FileId) (name : List ℕ) (limit : ℕ) → Step reads (wants file name limit) → limit_of left ≤ octets_of reads + limit
+
+-- a step that reads as many octets as it leaves fewer
+abbrev pub IsCounted : {A : Type 0} → (A → ℕ) → (List Read → Next A Status → Type 0) → Type 0
+IsCounted {A} size Step = (reads : List Read) (x : A) → Step reads (gives x) → octets_of reads ≡ size x
+
+one_read : (octets : List ℕ) (file : FileId) (name : List ℕ) → octets_of (record { file = file; name = name; octets = octets } ∷ []) ≡ length octets
+one_read octets file name = omega arith
+
+reads_bounded : (file : FileId) (name : List ℕ) (left : ℕ) → IsBounded {A = List ℕ} left (Reads file name (limit_of left))
+reads_bounded file name left reads f n limit wanted = omega (arith, wanted.3)
+
+reads_counted : (file : FileId) (name : List ℕ) (limit : ℕ) → IsCounted {A = List ℕ} (λ octets. length octets) (Reads file name limit)
+reads_counted file name limit reads octets read = ap octets_of read.0 ∙ one_read octets file name
+
+answers_bounded : {A : Type 0} (left : ℕ) (IsAnswer : Result A Status → Type 0) → IsBounded left (Answers IsAnswer)
+answers_bounded left IsAnswer reads file name limit wanted = absurd wanted
+
+then_bounded : {A B : Type 0} (left : ℕ) (size : A → ℕ) (First : List Read → Next A Status → Type 0) (Second : A → List Read → Next B Status → Type 0) → IsBounded left First → IsCounted size First → ((x : A) → IsBounded (left - size x) (Second x)) → IsBounded left (Then First Second)
+then_bounded left size First Second first sized second reads file name limit (inl wanted) = first reads file name limit wanted
+then_bounded left size First Second first sized second reads file name limit (inr goes) =
+    let front = sized goes.front goes.value goes.first in
+    let back = second goes.value goes.back file name limit goes.second in
+    let all : octets_of reads ≡ octets_of goes.front + octets_of goes.back = ap octets_of goes.parts ∙ octets_of-append goes.front goes.back in
+    omega (arith, front, back, all)
+
+nothing_counted : {A : Type 0} (IsAnswer : Result A Status → Type 0) → IsCounted {A = A} (λ _. 0) (Answers IsAnswer)
+nothing_counted IsAnswer reads x answer = ap octets_of answer.0
+
+configures_bounded : (config : List ℕ) → IsBounded command_limit (Configures config)
+configures_bounded config =
+    then_bounded command_limit (λ text. length text) (Reads Config config (limit_of command_limit)) (λ text. Answers (IsSetup text)) (reads_bounded Config config command_limit) (reads_counted Config config (limit_of command_limit))
+    (λ text. answers_bounded (command_limit - length text) (IsSetup text))
+
+lan_bounded : (prefix : List ℕ) (left : ℕ) → IsBounded left (ReplaysLan prefix left)
+lan_bounded prefix left =
+    then_bounded left (λ octets. length octets) (Reads (InLan 0) (codes "lan-home.pcap") (limit_of left)) (λ octets. Answers (λ answer. answer ≡ planned_of prefix octets)) (reads_bounded (InLan 0) (codes "lan-home.pcap") left) (reads_counted (InLan 0) (codes "lan-home.pcap") (limit_of left))
+    (λ octets. answers_bounded (left - length octets) (λ answer. answer ≡ planned_of prefix octets))
+
+home_bounded : (prefix text : List ℕ) (left : ℕ) → IsBounded left (ReplaysText prefix left text)
+home_bounded prefix text left =
+    then_bounded left (λ _. 0) (Answers (λ answer. answer ≡ home_only text)) (λ _. ReplaysLan prefix left) (answers_bounded left (λ answer. answer ≡ home_only text)) (nothing_counted (λ answer. answer ≡ home_only text))
+    (λ _. subst (λ (n : ℕ). IsBounded n (ReplaysLan prefix left)) (omega arith) (lan_bounded prefix left))
+
+-- what is printed of a configuration reads no further file
+prints_bounded : (config : List ℕ) (IsAnswer : Setup → Result Planned Status → Type 0) (reads : List Read) (file : FileId) (name : List ℕ) (limit : ℕ) → Then (Configures config) (λ setup. Answers (IsAnswer setup)) reads (wants file name limit) → limit_of command_limit ≤ octets_of reads + limit
+prints_bounded config IsAnswer reads file name limit (inl wanted) = configures_bounded config reads file name limit wanted
+prints_bounded config IsAnswer reads file name limit (inr goes) = absurd goes.second
+
+pub course_bounded : (request : Request) (reads : List Read) (file : FileId) (name : List ℕ) (limit : ℕ) → Course request reads (wants file name limit) → file_limit ≤ octets_of reads + limit
+course_bounded (replay config prefix) reads file name limit wanted =
+    let bounded : IsBounded command_limit (ReplaysHome config prefix) = then_bounded command_limit (λ text. length text) (Reads Config config (limit_of command_limit)) (λ text. ReplaysText prefix (command_limit - length text) text) (reads_bounded Config config command_limit) (reads_counted Config config (limit_of command_limit))
+        (λ text. home_bounded prefix text (command_limit - length text)) in
+    let known = bounded reads file name limit wanted in
+    omega arith
+course_bounded (rules config generation) reads file name limit wanted =
+    let known = prints_bounded config (λ setup answer. answer ≡ rules_said setup generation) reads file name limit wanted in
+    omega arith
+course_bounded (owner config generation addr port) reads file name limit wanted =
+    let known = prints_bounded config (λ setup answer. answer ≡ owner_said setup generation addr port) reads file name limit wanted in
+    omega arith
