@@ -2,15 +2,16 @@
 use Rattle.std.proofs.Common.{◌≡◌, ◌⊎◌, ℕ, ◌+◌, ◌-◌, ◌≤◌, ◌<◌, List, [], ◌∷◌, ◌++◌, length, Result, refl, sym, ap, subst, ◌∙◌, inl, inr, arith}
 use Rattle.std.specs.Prelude.{codes}
 use Rattle.outside.specs.declared.file_id.FileId.{FileId}
-use Rattle.outside.specs.declared.file_id.FileId.TheVariants.{Config, InLan}
+use Rattle.outside.specs.declared.file_id.FileId.TheVariants.{Config, InLan, Options}
 use Rattle.mapt_setup.specs.declared.setup.Setup.{Setup}
 use Rattle.mapt_tool.specs.declared.status.Status.{Status}
 use Rattle.mapt_tool.specs.Course.{IsSetup, Configures, rules_said, owner_said, Course}
 use Rattle.mapt_tool.specs.Limits.{file_limit, command_limit, limit_of}
 use Rattle.mapt_tool.specs.Planned.{Planned}
+use Rattle.mapt_tool.specs.Printed.{IsOptions}
 use Rattle.mapt_tool.specs.Reading.{Read, Next, gives, refuses, wants, lacks, octets_of, Answers, Reads, Goes, Then}
 use Rattle.mapt_tool.specs.Replay.{home_only, planned_of, ReplaysLan, ReplaysText, ReplaysHome}
-use Rattle.mapt_tool.specs.Request.{Request, replay, rules, owner}
+use Rattle.mapt_tool.specs.Request.{Request, replay, rules, owner, options}
 use Rattle.mapt_tool.proofs.Steps.{octets_of-append}
 
 -- where `left` octets of the command's are left at first, each file may have what is left of 64 MiB or of these
@@ -76,3 +77,7 @@ course_bounded (rules config generation) reads file name limit wanted =
 course_bounded (owner config generation addr port) reads file name limit wanted =
     let known = prints_bounded config (λ setup answer. answer ≡ owner_said setup generation addr port) reads file name limit wanted in
     omega arith
+course_bounded (options file) reads name named limit (inl wanted) =
+    let known = reads_bounded Options file command_limit reads name named limit wanted in
+    omega arith
+course_bounded (options file) reads name named limit (inr goes) = absurd goes.second

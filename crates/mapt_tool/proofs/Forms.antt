@@ -13,9 +13,9 @@ use Rattle.octets.proofs.Spelling4.{addr4_again, addr4_found, one_text4, text4_s
 use Rattle.mapt_tool.specs.declared.words.Kind.{Kind}
 use Rattle.mapt_tool.specs.declared.words.Kind.TheVariants.{Verb, FileName, Text, Generation, Address, Port}
 use Rattle.mapt_tool.specs.declared.words.Verb.{Verb as VerbType}
-use Rattle.mapt_tool.specs.declared.words.Verb.TheVariants.{Replay, Rules, Owner}
-use Rattle.mapt_tool.specs.declared.words.TheConstants.{REPLAY, RULES, OWNER}
-use Rattle.mapt_tool.specs.Request.{Request, replay, rules, owner, words_of, IsAskable, Asks, Begins, IsUsage}
+use Rattle.mapt_tool.specs.declared.words.Verb.TheVariants.{Replay, Rules, Owner, Options}
+use Rattle.mapt_tool.specs.declared.words.TheConstants.{REPLAY, RULES, OWNER, OPTIONS}
+use Rattle.mapt_tool.specs.Request.{Request, replay, rules, owner, options, words_of, IsAskable, Asks, Begins, IsUsage}
 use Rattle.mapt_tool.specs.Words.{keyword_of, number_up_to, fits, fitting, forms, usage_number}
 use Rattle.mapt_tool.proofs.Numbers.{number_found, number_again}
 
@@ -40,6 +40,7 @@ unfolding fill
 fill_fits (Verb Replay) = refl
 fill_fits (Verb Rules) = refl
 fill_fits (Verb Owner) = refl
+fill_fits (Verb Options) = refl
 fill_fits FileName = refl
 fill_fits Text = refl
 fill_fits Generation = refl
@@ -155,17 +156,26 @@ owner_asked (verb ∷ config ∷ generation ∷ addr ∷ port ∷ []) fit =
     })
 owner_asked (verb ∷ config ∷ generation ∷ addr ∷ port ∷ more ∷ words) fit = absurd fit.1.1.1.1.1
 
+options_asked : (words : List (List ℕ)) → AllFit OPTIONS words → (request : Request) × Asks words request
+options_asked [] fit = absurd fit
+options_asked (verb ∷ []) fit = absurd fit.1
+options_asked (verb ∷ file ∷ []) fit =
+    (options file, record { spelled = ap (λ (w : List ℕ). w ∷ file ∷ []) (same_bytes verb (codes "options") fit.0); askable = named file fit.1.0 })
+options_asked (verb ∷ file ∷ more ∷ words) fit = absurd fit.1.1
+
 -- ---- and what asks for something is of a form
 
 form_of : Request → List Kind
 form_of (replay config prefix) = REPLAY
 form_of (rules config generation) = RULES
 form_of (owner config generation addr port) = OWNER
+form_of (options file) = OPTIONS
 
 spelled_fits : (request : Request) → IsAskable request → AllFit (form_of request) (words_of request)
 unfolding form_of
 spelled_fits (replay config prefix) askable = (refl, (has_name config askable, (refl, tt)))
 spelled_fits (rules config generation) askable = (refl, (has_name config askable.0, (rw (number_again 64 generation (omega arith) askable.1) refl, tt)))
+spelled_fits (options file) askable = (refl, (has_name file askable, tt))
 spelled_fits (owner config generation addr port) askable =
     (refl, (has_name config askable.0, (rw (number_again 64 generation (omega arith) askable.1) refl, (rw (addr4_again (text4 addr) addr (text4_spells addr askable.2)) refl, (rw (number_again 65535 port (omega arith) askable.3) refl, tt)))))
 
@@ -206,6 +216,15 @@ one_words (rules config g) (replay config' prefix') a b same = absurd (other_ver
 one_words (rules config g) (owner config' g' addr' port') a b same = absurd (other_verb (codes "rules") (codes "owner") (config ∷ decimal g ∷ []) (config' ∷ decimal g' ∷ text4 addr' ∷ decimal port' ∷ []) same refl)
 one_words (owner config g addr port) (replay config' prefix') a b same = absurd (other_verb (codes "owner") (codes "replay") (config ∷ decimal g ∷ text4 addr ∷ decimal port ∷ []) (config' ∷ prefix' ∷ []) same refl)
 one_words (owner config g addr port) (rules config' g') a b same = absurd (other_verb (codes "owner") (codes "rules") (config ∷ decimal g ∷ text4 addr ∷ decimal port ∷ []) (config' ∷ decimal g' ∷ []) same refl)
+one_words (options file) (options file') a b same =
+    let first : file ≡ file' = ap (λ (w : List (List ℕ)). get_or w 1 []) same in
+    rw first refl
+one_words (replay config prefix) (options file') a b same = absurd (other_verb (codes "replay") (codes "options") (config ∷ prefix ∷ []) (file' ∷ []) same refl)
+one_words (options file) (replay config' prefix') a b same = absurd (other_verb (codes "options") (codes "replay") (file ∷ []) (config' ∷ prefix' ∷ []) same refl)
+one_words (rules config g) (options file') a b same = absurd (other_verb (codes "rules") (codes "options") (config ∷ decimal g ∷ []) (file' ∷ []) same refl)
+one_words (options file) (rules config' g') a b same = absurd (other_verb (codes "options") (codes "rules") (file ∷ []) (config' ∷ decimal g' ∷ []) same refl)
+one_words (owner config g addr port) (options file') a b same = absurd (other_verb (codes "owner") (codes "options") (config ∷ decimal g ∷ text4 addr ∷ decimal port ∷ []) (file' ∷ []) same refl)
+one_words (options file) (owner config' g' addr' port') a b same = absurd (other_verb (codes "options") (codes "owner") (file ∷ []) (config' ∷ decimal g' ∷ text4 addr' ∷ decimal port' ∷ []) same refl)
 
 pub one_request : (words : List (List ℕ)) (r s : Request) → Asks words r → Asks words s → r ≡ s
 one_request words r s first second = one_words r s first.askable second.askable (sym first.spelled ∙ second.spelled)
@@ -217,27 +236,31 @@ unfolding form_of
 form_counts (replay config prefix) words = omega arith
 form_counts (rules config generation) words = omega arith
 form_counts (owner config generation addr port) words = omega arith
+form_counts (options file) words = omega arith
 
 begun_by : (form : List Kind) (words : List (List ℕ)) (number : ℕ) → number ≤ fitting form words → ((w : List (List ℕ)) → AllFit form w → (request : Request) × Asks w request) → Begins (take number words)
 begun_by form words number within asked =
     let request = asked (take number words ++ drop number (map fill form)) (completed form words number within) in
     record { request = request.0; others = drop number (map fill form); whole = request.1 }
 
-one_of_three : (a b c : ℕ) → (max a (max b (max c 0)) ≤ a) ⊎ ((max a (max b (max c 0)) ≤ b) ⊎ (max a (max b (max c 0)) ≤ c))
-one_of_three a b c = grind arith
+one_of_four : (a b c d : ℕ) → let m = max a (max b (max c (max d 0))) in (m ≤ a) ⊎ ((m ≤ b) ⊎ ((m ≤ c) ⊎ (m ≤ d)))
+one_of_four a b c d = grind arith
 
 usage_begun : (words : List (List ℕ)) → Begins (take (usage_number words) words)
 usage_begun words =
-    elim (one_of_three (fitting REPLAY words) (fitting RULES words) (fitting OWNER words)) [
+    elim (one_of_four (fitting REPLAY words) (fitting RULES words) (fitting OWNER words) (fitting OPTIONS words)) [
       inl le ↦ begun_by REPLAY words (usage_number words) le replay_asked
     | inr others ↦ elim others [
         inl le ↦ begun_by RULES words (usage_number words) le rules_asked
-      | inr le ↦ begun_by OWNER words (usage_number words) le owner_asked
+      | inr more ↦ elim more [
+          inl le ↦ begun_by OWNER words (usage_number words) le owner_asked
+        | inr le ↦ begun_by OPTIONS words (usage_number words) le options_asked
+        ]
       ]
     ]
 
 usage_within : (words : List (List ℕ)) → usage_number words ≤ length words
-usage_within words = omega (arith, fitting_within REPLAY words, fitting_within RULES words, fitting_within OWNER words)
+usage_within words = omega (arith, fitting_within REPLAY words, fitting_within RULES words, fitting_within OWNER words, fitting_within OPTIONS words)
 
 usage_most : (words : List (List ℕ)) → usage_number words < length words → Begins (take (suc (usage_number words)) words) → ⊥
 usage_most words less begins =

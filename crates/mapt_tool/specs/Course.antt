@@ -1,7 +1,7 @@
 -- What each command comes to, step by step: the files that it reads, in their order, and then what it does to the
 -- outside or why it refuses. The definitions of this file are relations, since what a text sets up is one.
 use Rattle.std.specs.Prelude.{◌≡◌, ℕ, ◌-◌, List, length, map, Result, Ok, Err}
-use Rattle.outside.specs.declared.file_id.FileId.TheVariants.{Config}
+use Rattle.outside.specs.declared.file_id.FileId.TheVariants.{Config, Options}
 use Rattle.rule_book.specs.declared.book.Book.{Book}
 use Rattle.rule_book.specs.Book.{rules_of, dmr_of}
 use Rattle.rule_book.specs.Text.{book_text, owner_text}
@@ -11,9 +11,10 @@ use Rattle.mapt_setup.specs.Setup.{setup_of, book_at}
 use Rattle.mapt_tool.specs.declared.status.Status.{Status}
 use Rattle.mapt_tool.specs.Limits.{limit_of, command_limit}
 use Rattle.mapt_tool.specs.Planned.{Planned, says}
+use Rattle.mapt_tool.specs.Printed.{IsOptions}
 use Rattle.mapt_tool.specs.Reading.{Read, Next, Answers, Reads, Then}
 use Rattle.mapt_tool.specs.Replay.{ReplaysHome}
-use Rattle.mapt_tool.specs.Request.{Request, replay, rules, owner}
+use Rattle.mapt_tool.specs.Request.{Request, replay, rules, owner, options}
 use Rattle.mapt_tool.specs.Status.{status_of}
 
 -- the setup of a configuration, or its first fault as a status
@@ -45,3 +46,4 @@ Course (replay config prefix) = ReplaysHome config prefix
 Course (rules config generation) = Then (Configures config) (λ setup. Answers (λ answer. answer ≡ rules_said setup generation))
 Course (owner config generation addr port) =
     Then (Configures config) (λ setup. Answers (λ answer. answer ≡ owner_said setup generation addr port))
+Course (options file) = Then (Reads Options file (limit_of command_limit)) (λ text. Answers (IsOptions text))

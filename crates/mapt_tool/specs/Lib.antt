@@ -6,6 +6,7 @@ pub mod Limits
 pub mod Outcome
 pub mod Pieces
 pub mod Planned
+pub mod Printed
 pub mod Reading
 pub mod Replay
 pub mod Request

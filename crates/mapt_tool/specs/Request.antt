@@ -8,6 +8,7 @@ pub data Request : Type 0 where
   replay : List ℕ → List ℕ → Request
   rules : List ℕ → ℕ → Request
   owner : List ℕ → ℕ → ℕ → ℕ → Request
+  options : List ℕ → Request
 
 -- the words that spell it: a number by its decimal digits, an address by its text
 abbrev pub words_of : Request → List (List ℕ)
@@ -15,12 +16,14 @@ words_of (replay config prefix) = codes "replay" ∷ config ∷ prefix ∷ []
 words_of (rules config generation) = codes "rules" ∷ config ∷ decimal generation ∷ []
 words_of (owner config generation addr port) =
     codes "owner" ∷ config ∷ decimal generation ∷ text4 addr ∷ decimal port ∷ []
+words_of (options file) = codes "options" ∷ file ∷ []
 
 -- a file has a name; a generation's number is at most 64; an address has 32 bits, and a port 16
 abbrev pub IsAskable : Request → Type 0
 IsAskable (replay config prefix) = config ≢ []
 IsAskable (rules config generation) = (config ≢ []) × (generation ≤ 64)
 IsAskable (owner config generation addr port) = (config ≢ []) × (generation ≤ 64) × (addr < 2 ^ 32) × (port ≤ 65535)
+IsAskable (options file) = file ≢ []
 
 -- the words ask for this
 pub record Asks (words : List (List ℕ)) (request : Request) : Type 0 where

@@ -3,19 +3,20 @@ use Rattle.std.specs.Prelude.{ℕ, ◌+◌, ◌-◌, ◌*◌, nat_le, is_some, B
 use Rattle.std.specs.Str.{bytes_eq}
 use Rattle.octets.specs.Text4.{addr4_at}
 use Rattle.mapt_tool.specs.declared.words.Verb.{Verb as VerbType}
-use Rattle.mapt_tool.specs.declared.words.Verb.TheVariants.{Replay, Rules, Owner}
+use Rattle.mapt_tool.specs.declared.words.Verb.TheVariants.{Replay, Rules, Owner, Options}
 use Rattle.mapt_tool.specs.declared.words.Kind.{Kind}
 use Rattle.mapt_tool.specs.declared.words.Kind.TheVariants.{Verb, FileName, Text, Generation, Address, Port}
 use Rattle.mapt_tool.specs.declared.words.Command.{Command}
-use Rattle.mapt_tool.specs.declared.words.Command.TheVariants.{Replay as Replayed, Rules as Printed, Owner as Asked}
-use Rattle.mapt_tool.specs.declared.words.TheConstants.{REPLAY, RULES, OWNER}
-use Rattle.mapt_tool.specs.Request.{Request, replay, rules, owner}
+use Rattle.mapt_tool.specs.declared.words.Command.TheVariants.{Replay as Replayed, Rules as Printed, Owner as Asked, Options as Shown}
+use Rattle.mapt_tool.specs.declared.words.TheConstants.{REPLAY, RULES, OWNER, OPTIONS}
+use Rattle.mapt_tool.specs.Request.{Request, replay, rules, owner, options}
 
 -- how a form's first word is written
 abbrev pub keyword_of : VerbType → List ℕ
 keyword_of Replay = codes "replay"
 keyword_of Rules = codes "rules"
 keyword_of Owner = codes "owner"
+keyword_of Options = codes "options"
 
 -- decimal digits after a number, as long as that isn't above the most
 abbrev pub digits_up_to : ℕ → ℕ → List ℕ → Option ℕ
@@ -53,7 +54,7 @@ fitting (kind ∷ form) (word ∷ words) = if fits kind word then fitting form w
 
 -- the forms of the code
 abbrev pub forms : List (List Kind)
-forms = REPLAY ∷ RULES ∷ OWNER ∷ []
+forms = REPLAY ∷ RULES ∷ OWNER ∷ OPTIONS ∷ []
 
 -- how many words from the first on begin a form: of words that are none, the place of the first that no
 -- form can go on with, or their number
@@ -69,3 +70,4 @@ abbrev pub seen : Command → Request
 seen (Replayed config prefix) = replay config.now prefix.now
 seen (Printed config generation) = rules config.now generation
 seen (Asked config generation addr port) = owner config.now generation addr.0 port
+seen (Shown file) = options file.now

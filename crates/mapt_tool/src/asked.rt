@@ -43,7 +43,7 @@ fn configured<F: Folder>(alloc: Global, folder: &mut F, config: &str) -> Result<
 }
 
 /// A plan that puts this text on the sink.
-fn saying(alloc: Global, text: &[u8]) -> Result<Plan, NoMemory>
+pub fn saying(alloc: Global, text: &[u8]) -> Result<Plan, NoMemory>
     ensures { IfOk result (λ plan. plan ≡ says text.now) }
 {
     let mut plan = Plan::new(alloc);

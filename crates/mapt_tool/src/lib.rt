@@ -7,6 +7,7 @@ mod config;
 mod home;
 mod laws;
 mod plan;
+mod printed;
 mod reading;
 mod replay;
 mod status;

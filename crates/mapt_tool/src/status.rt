@@ -15,7 +15,7 @@ pub enum Status {
     #[error("done [Done]")]
     Done,
     /// The words are no form. The number is that of the words that still begin one.
-    #[error("usage: mapt replay C P, mapt rules C G or mapt owner C G A X [Usage({0})]")]
+    #[error("usage: mapt replay C P, mapt rules C G, mapt owner C G A X or mapt options F [Usage({0})]")]
     Usage(u32),
     /// A read of this file failed.
     #[error("{0} could not be read [ReadFault({0:?})]")]

@@ -9,6 +9,7 @@ ghost use Rattle.mapt_tool.specs.Words.{seen};
 use crate::asked::{owner, rules};
 use crate::carrying::carry_out;
 use crate::plan::Plan;
+use crate::printed::options;
 use crate::replay::replay;
 use crate::status::Status;
 use crate::words::{Command, command_of};
@@ -30,6 +31,7 @@ fn plan_of<F: Folder>(alloc: Global, folder: &mut F, command: Command<'_>) -> Re
             addr,
             port,
         } => owner(alloc, folder, config, generation, addr, port),
+        Command::Options { file } => options(alloc, folder, file),
     }
 }
 

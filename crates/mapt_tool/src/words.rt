@@ -14,6 +14,7 @@ pub enum Verb {
     Replay,
     Rules,
     Owner,
+    Options,
 }
 
 impl Verb {
@@ -25,6 +26,7 @@ impl Verb {
             Verb::Replay => "replay",
             Verb::Rules => "rules",
             Verb::Owner => "owner",
+            Verb::Options => "options",
         }
     }
 }
@@ -66,6 +68,9 @@ pub const OWNER: [Kind; 5] = [
     Kind::Address,
     Kind::Port,
 ];
+
+/// `options F`
+pub const OPTIONS: [Kind; 2] = [Kind::Verb(Verb::Options), Kind::FileName];
 
 /// The number of decimal digits that stand after a number, as long as that isn't above the most.
 fn digits_up_to(most: u32, word: &[u8]) -> Option<u32>
@@ -182,6 +187,10 @@ pub enum Command<'a> {
         addr: Addr4,
         port: u16,
     },
+    /// Prints the container of DHCPv6 options in a file, and writes it again.
+    Options {
+        file: &'a str,
+    },
 }
 
 /// The number of Usage: how many words from the first on begin a form.
@@ -191,7 +200,8 @@ pub fn usage(words: &[String]) -> u32
     let replay = fitting(&REPLAY, words);
     let rules = fitting(&RULES, words);
     let owner = fitting(&OWNER, words);
-    replay.max(rules.max(owner))
+    let options = fitting(&OPTIONS, words);
+    replay.max(rules.max(owner.max(options)))
 }
 
 /// Whether the word is this verb.
@@ -263,6 +273,18 @@ fn owner_of<'a>(
     })
 }
 
+/// The command that two words spell, if they spell one.
+fn command_of_two<'a>(verb: &str, file: &'a str) -> Option<Command<'a>>
+    ensures found { IfSome result (λ command. Asks (verb.now ∷ file.now ∷ []) (seen command)) }
+    ensures none { IfNone result ((request : Request) → Asks (verb.now ∷ file.now ∷ []) request → ⊥) }
+{
+    if is_verb(verb, Verb::Options) && is_file_name(file) {
+        Some(Command::Options { file })
+    } else {
+        None
+    }
+}
+
 /// The command that three words spell, if they spell one.
 fn command_of_three<'a>(verb: &str, config: &'a str, third: &'a str) -> Option<Command<'a>>
     ensures found { IfSome result (λ command. Asks (verb.now ∷ config.now ∷ third.now ∷ []) (seen command)) }
@@ -280,6 +302,7 @@ fn command_in(words: &[String]) -> Option<Command<'_>>
     ensures none { IfNone result ((request : Request) → Asks (map string_bytes words.now) request → ⊥) }
 {
     match words {
+        [verb, file] => command_of_two(verb.as_str(), file.as_str()),
         [verb, config, third] => command_of_three(verb.as_str(), config.as_str(), third.as_str()),
         [verb, config, generation, addr, port] => owner_of(
             verb.as_str(),
