@@ -5,15 +5,24 @@ use mapt_tool::{Status, mapt};
 use outside::{FreeGate, RealFolder, RealSink};
 use std::alloc::Global;
 use std::env;
+use std::io::ErrorKind;
 use std::process::ExitCode;
 
-/// The words behind the program's name, if memory lasts.
-fn words_of(rt: &HostRuntime, alloc: Global) -> Option<Vec<String>> {
+/// The words behind the program's name. Where one of them is no text, the command line is faulty from its first
+/// word on: which word it is can't be told.
+fn words_of(rt: &HostRuntime, alloc: Global) -> Result<Vec<String>, Status> {
+    let all = match env::args(rt) {
+        Ok(all) => all,
+        Err(fault) if fault.kind() == ErrorKind::InvalidData => return Err(Status::Usage(0)),
+        Err(_) => return Err(Status::NoMemory),
+    };
     let mut words = Vec::new(alloc);
-    for word in env::args(rt).ok()?.skip(1) {
-        words.push(word).ok()?;
+    for word in all.skip(1) {
+        if words.push(word).is_err() {
+            return Err(Status::NoMemory);
+        }
     }
-    Some(words)
+    Ok(words)
 }
 
 fn main(rt: HostRuntime) -> ExitCode {
@@ -21,8 +30,8 @@ fn main(rt: HostRuntime) -> ExitCode {
     let mut folder = RealFolder::new(&rt);
     let mut out = RealSink::new(&rt);
     let status = match words_of(&rt, alloc) {
-        Some(words) => mapt(&rt, alloc, &words, &mut folder, &mut out, &FreeGate::new()),
-        None => Status::NoMemory,
+        Ok(words) => mapt(&rt, alloc, &words, &mut folder, &mut out, &FreeGate::new()),
+        Err(status) => status,
     };
     if status != Status::Done {
         let _ = eprintln!(rt; "mapt: {status}");

@@ -5,7 +5,7 @@ use inet_sum::{check_of, sum};
 use mapt_setup::SetupCause;
 use mapt_tool::{Status, mapt, mapt_plain};
 use outside::{
-    FileId, Folder, FreeGate, MemFolder, MemSink, RealFolder, Sink, SureFolder, SureSink,
+    FileId, Folder, FreeGate, MemFolder, MemSink, RealFolder, RealSink, Sink, SureFolder, SureSink,
 };
 use pcap_files::{CaptureFault, Writer};
 use std::alloc::Global;
@@ -162,7 +162,7 @@ fn padding_belongs_to_no_packet(rt: HostRuntime) -> Result<(), Fail> {
     Ok(())
 }
 
-/// Whether these words, with this configuration, end so and print this text, by both top calls.
+/// Whether these words, with this configuration or container, end so and print this text, by both top calls.
 fn prints<R: Threads + Wait + Sync>(
     rt: &R,
     alloc: Global,
@@ -173,6 +173,7 @@ fn prints<R: Threads + Wait + Sync>(
 ) -> Result<bool, Fail> {
     let words = words_of(alloc, words)?;
     let mut folder = folder_of(alloc, config, b"")?;
+    folder.put_file("container.txt", config)?;
     let mut plain = SureSink::new(alloc);
     let mut out = SureSink::new(alloc);
     let alone = mapt_plain(alloc, &words, &mut folder, &mut plain);
@@ -218,6 +219,88 @@ fn a_home_is_printed(rt: HostRuntime) -> Result<(), Fail> {
     Ok(())
 }
 
+/// A container with a rule and a default mapping rule, as hexadecimal text.
+const CONTAINER: &[u8] = b"005f001e0059000d011018c00002002820010db800005b00094020010db8ffff0000";
+
+/// Its lines.
+const CONTAINER_LINES: &[u8] = b"dmr 2001:db8:ffff::/64
+rule 2001:db8::/40 192.0.2.0/24 ea 16 offset 6 forward 1
+octets 005f001e0059000d011018c00002002820010db800005b00094020010db8ffff0000
+";
+
+#[test]
+fn a_container_is_printed(rt: HostRuntime) -> Result<(), Fail> {
+    let words = ["options", "container.txt"];
+    assert!(rt;
+        prints(
+            &rt,
+            rt.alloc(),
+            CONTAINER,
+            &words,
+            Status::Done,
+            CONTAINER_LINES
+        )?
+    );
+    let rows: [(&[u8], SetupCause, u32); 4] = [
+        // a digit is none
+        (b"0g", SetupCause::BadHex, 1),
+        // the last octet is missing
+        (
+            b"005f001e0059000d011018c00002002820010db800005b00094020010db8ffff00",
+            SetupCause::BadContainer,
+            33,
+        ),
+        // a bit of the IPv4 prefix is set past its length
+        (
+            b"005f001e0059000d011018c00002012820010db800005b00094020010db8ffff0000",
+            SetupCause::BadContainer,
+            14,
+        ),
+        // the default mapping rule stands twice
+        (
+            b"005f002b0059000d011018c00002002820010db800005b00094020010db8ffff0000005b00094020010db8ffff0000",
+            SetupCause::BadContainer,
+            34,
+        ),
+    ];
+    for (text, cause, place) in rows {
+        let refused = Status::SetupRefused(cause, place);
+        assert!(rt; prints(&rt, rt.alloc(), text, &words, refused, b"")?);
+    }
+    Ok(())
+}
+
+/// The home's configuration, with its rule and default mapping rule in a container.
+const WITH_OPTIONS: &[u8] = b"[domain]
+options = \"005f001e0059000d011018c00002002820010db800005b00094020010db8ffff0000\"
+relay = \"198.51.100.1\"
+mtu4 = 1500
+mtu6 = 1500
+
+[[edge]]
+name = \"home\"
+prefix = \"2001:db8:12:3400::/56\"
+lan = \"192.168.1.1\"
+capture = \"lan-home.pcap\"
+";
+
+#[test]
+fn a_configuration_with_options_is_printed(rt: HostRuntime) -> Result<(), Fail> {
+    let lines =
+        b"dmr 2001:db8:ffff::/64\nrule 2001:db8::/40 192.0.2.0/24 ea 16 offset 6 forward 1\n";
+    assert!(rt;
+        prints(
+            &rt,
+            rt.alloc(),
+            WITH_OPTIONS,
+            &["rules", "home.toml", "0"],
+            Status::Done,
+            lines
+        )?
+    );
+    Ok(())
+}
+
 #[test]
 fn configurations_that_are_refused(rt: HostRuntime) -> Result<(), Fail> {
     let alloc = rt.alloc();
@@ -245,7 +328,7 @@ fn configurations_that_are_refused(rt: HostRuntime) -> Result<(), Fail> {
 #[test]
 fn words_that_are_no_form(rt: HostRuntime) -> Result<(), Fail> {
     let alloc = rt.alloc();
-    let cases: [(&[&str], u32); 10] = [
+    let cases: [(&[&str], u32); 12] = [
         (&[], 0),
         (&["--help"], 0),
         (&["Replay", "home.toml", "out-"], 0),
@@ -256,6 +339,8 @@ fn words_that_are_no_form(rt: HostRuntime) -> Result<(), Fail> {
         (&["rules", "home.toml", "65"], 2),
         (&["owner", "home.toml", "0", "192.0.2.300", "5"], 3),
         (&["owner", "home.toml", "0", "192.0.2.18", "05"], 4),
+        (&["options", ""], 1),
+        (&["options", "container.txt", "more"], 2),
     ];
     for (words, number) in cases {
         let words = words_of(alloc, words)?;
@@ -451,12 +536,18 @@ fn real_files_are_read_again(rt: HostRuntime) -> Result<(), Fail> {
 }
 
 #[test]
+fn text_is_put_on_the_real_sink(rt: HostRuntime) {
+    let mut out = RealSink::new(&rt);
+    assert!(rt; out.put(rt.alloc(), b"text on standard output\n").is_ok());
+}
+
+#[test]
 fn fault_lines(rt: HostRuntime) -> Result<(), Fail> {
     let alloc = rt.alloc();
     let cases = [
         (
             Status::Usage(0),
-            "usage: mapt replay C P, mapt rules C G or mapt owner C G A X [Usage(0)]",
+            "usage: mapt replay C P, mapt rules C G, mapt owner C G A X or mapt options F [Usage(0)]",
         ),
         (
             Status::NotBuilt(FileId::InLan(0)),

@@ -68,7 +68,7 @@ prints_bounded config IsAnswer reads file name limit (inr goes) = absurd goes.se
 pub course_bounded : (request : Request) (reads : List Read) (file : FileId) (name : List ℕ) (limit : ℕ) → Course request reads (wants file name limit) → file_limit ≤ octets_of reads + limit
 course_bounded (replay config prefix) reads file name limit wanted =
     let bounded : IsBounded command_limit (ReplaysHome config prefix) = then_bounded command_limit (λ text. length text) (Reads Config config (limit_of command_limit)) (λ text. ReplaysText prefix (command_limit - length text) text) (reads_bounded Config config command_limit) (reads_counted Config config (limit_of command_limit))
-        (λ text. home_bounded prefix text (command_limit - length text)) in
+    (λ text. home_bounded prefix text (command_limit - length text)) in
     let known = bounded reads file name limit wanted in
     omega arith
 course_bounded (rules config generation) reads file name limit wanted =

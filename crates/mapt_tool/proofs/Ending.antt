@@ -174,12 +174,12 @@ pub served_form : (words : List (List ℕ)) (request : Request) (old new : Outsi
 served_form words request old new status asks ends =
     let one = λ (other : Request) (asked : Asks words other). one_request words other request asked asks in
     record {
-  no_form = λ none. absurd (none request asks);
-  form = λ other asked. subst (λ (r : Request). Ends r old new status) (sym (one other asked)) ends;
-  complete = λ other files asked is sound. tells_one other old new files status is (subst (λ (r : Request). Ends r old new status) (sym (one other asked)) ends) sound;
-  exact = λ other files answer asked is outcome sound.
-      tells_exactly other files status answer (tells_one other old new files status is (subst (λ (r : Request). Ends r old new status) (sym (one other asked)) ends) sound) outcome;
-}
+      no_form = λ none. absurd (none request asks);
+      form = λ other asked. subst (λ (r : Request). Ends r old new status) (sym (one other asked)) ends;
+      complete = λ other files asked is sound. tells_one other old new files status is (subst (λ (r : Request). Ends r old new status) (sym (one other asked)) ends) sound;
+      exact = λ other files answer asked is outcome sound.
+          tells_exactly other files status answer (tells_one other old new files status is (subst (λ (r : Request). Ends r old new status) (sym (one other asked)) ends) sound) outcome;
+    }
 
 pub served_no_form : (words : List (List ℕ)) (number : ℕ) (outside : Outside) → IsUsage words number → Serves words outside outside (Usage number)
 served_no_form words number outside usage = record {

@@ -118,11 +118,13 @@ replay_asked : (words : List (List ℕ)) → AllFit REPLAY words → (request : 
 replay_asked [] fit = absurd fit
 replay_asked (verb ∷ []) fit = absurd fit.1
 replay_asked (verb ∷ config ∷ []) fit = absurd fit.1.1
-replay_asked (verb ∷ config ∷ prefix ∷ []) fit =
-    (replay config prefix, record {
-      spelled = ap (λ (w : List ℕ). w ∷ config ∷ prefix ∷ []) (same_bytes verb (codes "replay") fit.0);
-      askable = named config fit.1.0;
-    })
+replay_asked (verb ∷ config ∷ prefix ∷ []) fit = (
+  replay config prefix,
+  record {
+    spelled = ap (λ (w : List ℕ). w ∷ config ∷ prefix ∷ []) (same_bytes verb (codes "replay") fit.0);
+    askable = named config fit.1.0;
+  },
+)
 replay_asked (verb ∷ config ∷ prefix ∷ more ∷ words) fit = absurd fit.1.1.1
 
 rules_asked : (words : List (List ℕ)) → AllFit RULES words → (request : Request) × Asks words request
@@ -130,11 +132,13 @@ rules_asked [] fit = absurd fit
 rules_asked (verb ∷ []) fit = absurd fit.1
 rules_asked (verb ∷ config ∷ []) fit = absurd fit.1.1
 rules_asked (verb ∷ config ∷ generation ∷ []) fit =
-    let n = numbered 64 generation (omega arith) fit.1.1.0 in
-    (rules config n.0, record {
-      spelled = ap (λ (w : List ℕ). w ∷ config ∷ generation ∷ []) (same_bytes verb (codes "rules") fit.0) ∙ ap (λ (w : List ℕ). codes "rules" ∷ config ∷ w ∷ []) n.2;
-      askable = (named config fit.1.0, n.1);
-    })
+    let n = numbered 64 generation (omega arith) fit.1.1.0 in (
+      rules config n.0,
+      record {
+        spelled = ap (λ (w : List ℕ). w ∷ config ∷ generation ∷ []) (same_bytes verb (codes "rules") fit.0) ∙ ap (λ (w : List ℕ). codes "rules" ∷ config ∷ w ∷ []) n.2;
+        askable = (named config fit.1.0, n.1);
+      },
+    )
 rules_asked (verb ∷ config ∷ generation ∷ more ∷ words) fit = absurd fit.1.1.1
 
 owner_asked : (words : List (List ℕ)) → AllFit OWNER words → (request : Request) × Asks words request
@@ -146,14 +150,16 @@ owner_asked (verb ∷ config ∷ generation ∷ addr ∷ []) fit = absurd fit.1.
 owner_asked (verb ∷ config ∷ generation ∷ addr ∷ port ∷ []) fit =
     let n = numbered 64 generation (omega arith) fit.1.1.0 in
     let a = addressed addr fit.1.1.1.0 in
-    let x = numbered 65535 port (omega arith) fit.1.1.1.1.0 in
-    (owner config n.0 a.0 x.0, record {
-      spelled = ap (λ (w : List ℕ). w ∷ config ∷ generation ∷ addr ∷ port ∷ []) (same_bytes verb (codes "owner") fit.0)
-          ∙ ap (λ (w : List ℕ). codes "owner" ∷ config ∷ w ∷ addr ∷ port ∷ []) n.2
-          ∙ ap (λ (w : List ℕ). codes "owner" ∷ config ∷ decimal n.0 ∷ w ∷ port ∷ []) a.2
-          ∙ ap (λ (w : List ℕ). codes "owner" ∷ config ∷ decimal n.0 ∷ text4 a.0 ∷ w ∷ []) x.2;
-      askable = (named config fit.1.0, n.1, a.1, x.1);
-    })
+    let x = numbered 65535 port (omega arith) fit.1.1.1.1.0 in (
+      owner config n.0 a.0 x.0,
+      record {
+        spelled = ap (λ (w : List ℕ). w ∷ config ∷ generation ∷ addr ∷ port ∷ []) (same_bytes verb (codes "owner") fit.0)
+            ∙ ap (λ (w : List ℕ). codes "owner" ∷ config ∷ w ∷ addr ∷ port ∷ []) n.2
+            ∙ ap (λ (w : List ℕ). codes "owner" ∷ config ∷ decimal n.0 ∷ w ∷ port ∷ []) a.2
+            ∙ ap (λ (w : List ℕ). codes "owner" ∷ config ∷ decimal n.0 ∷ text4 a.0 ∷ w ∷ []) x.2;
+        askable = (named config fit.1.0, n.1, a.1, x.1);
+      },
+    )
 owner_asked (verb ∷ config ∷ generation ∷ addr ∷ port ∷ more ∷ words) fit = absurd fit.1.1.1.1.1
 
 options_asked : (words : List (List ℕ)) → AllFit OPTIONS words → (request : Request) × Asks words request
@@ -249,12 +255,12 @@ one_of_four a b c d = grind arith
 usage_begun : (words : List (List ℕ)) → Begins (take (usage_number words) words)
 usage_begun words =
     elim (one_of_four (fitting REPLAY words) (fitting RULES words) (fitting OWNER words) (fitting OPTIONS words)) [
-      inl le ↦ begun_by REPLAY words (usage_number words) le replay_asked
-    | inr others ↦ elim others [
-        inl le ↦ begun_by RULES words (usage_number words) le rules_asked
-      | inr more ↦ elim more [
-          inl le ↦ begun_by OWNER words (usage_number words) le owner_asked
-        | inr le ↦ begun_by OPTIONS words (usage_number words) le options_asked
+      | inl le ↦ begun_by REPLAY words (usage_number words) le replay_asked
+      | inr others ↦ elim others [
+        | inl le ↦ begun_by RULES words (usage_number words) le rules_asked
+        | inr more ↦ elim more [
+          | inl le ↦ begun_by OWNER words (usage_number words) le owner_asked
+          | inr le ↦ begun_by OPTIONS words (usage_number words) le options_asked
         ]
       ]
     ]

@@ -16,5 +16,5 @@ five f (v ∷ w ∷ x ∷ y ∷ z ∷ u ∷ more) a b c d e least most p q r s t
 pub returns-in-len5-clause-none : goal.returns-in-len5-clause-none
 returns-in-len5-clause-none c =
     let words = five string_bytes c.args.words.now c.verb-item-then-words-lt6.result c.config-item-then-words-lt6.result c.generation-item.result c.addr-item.result c.port-item.result c.in-len5.len_at_least c.in-len5.len_below
-        c.verb-item-then-words-lt6.is c.config-item-then-words-lt6.is c.generation-item.is c.addr-item.is c.port-item.is in
+    c.verb-item-then-words-lt6.is c.config-item-then-words-lt6.is c.generation-item.is c.addr-item.is c.port-item.is in
     rw words (rw (c.as_str-in-len5.ensures.value, c.as_str-in-len5-2.ensures.value, c.as_str-in-len5-3.ensures.value, c.as_str-in-len5-4.ensures.value, c.as_str-in-len5-5.ensures.value) at c.owner_of.ensures.none)
