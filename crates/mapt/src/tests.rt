@@ -559,7 +559,15 @@ fn fault_lines(rt: HostRuntime) -> Result<(), Fail> {
         ),
         (
             Status::SetupRefused(SetupCause::Overlap4, 1),
-            "the configuration is refused: the IPv4 prefix of a rule overlaps that of an earlier one, at 1 [SetupRefused(Overlap4, 1)]",
+            "refused: the IPv4 prefix of rule 1 overlaps that of an earlier rule [SetupRefused(Overlap4, 1)]",
+        ),
+        (
+            Status::SetupRefused(SetupCause::EdgeName, 1),
+            "refused: edge 1 has the name of an earlier edge [SetupRefused(EdgeName, 1)]",
+        ),
+        (
+            Status::SetupRefused(SetupCause::BadContainer, 14),
+            "refused: the options are no container that is accepted, by octet 14 [SetupRefused(BadContainer, 14)]",
         ),
         (
             Status::ReadFault(FileId::Config),

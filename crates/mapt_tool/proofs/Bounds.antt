@@ -1,5 +1,5 @@
 -- A command reads no file that may have less than 64 MiB, unless it has read more than 64 MiB before.
-use Rattle.std.proofs.Common.{◌≡◌, ◌⊎◌, ℕ, ◌+◌, ◌-◌, ◌≤◌, ◌<◌, List, [], ◌∷◌, ◌++◌, length, Result, refl, sym, ap, subst, ◌∙◌, inl, inr, arith}
+use Rattle.std.proofs.Common.{◌≡◌, ℕ, ◌+◌, ◌-◌, ◌≤◌, List, [], ◌∷◌, length, Result, ap, subst, ◌∙◌, inl, inr, arith}
 use Rattle.std.specs.Prelude.{codes}
 use Rattle.outside.specs.declared.file_id.FileId.{FileId}
 use Rattle.outside.specs.declared.file_id.FileId.TheVariants.{Config, InLan, Options}
@@ -8,8 +8,7 @@ use Rattle.mapt_tool.specs.declared.status.Status.{Status}
 use Rattle.mapt_tool.specs.Course.{IsSetup, Configures, rules_said, owner_said, Course}
 use Rattle.mapt_tool.specs.Limits.{file_limit, command_limit, limit_of}
 use Rattle.mapt_tool.specs.Planned.{Planned}
-use Rattle.mapt_tool.specs.Printed.{IsOptions}
-use Rattle.mapt_tool.specs.Reading.{Read, Next, gives, refuses, wants, lacks, octets_of, Answers, Reads, Goes, Then}
+use Rattle.mapt_tool.specs.Reading.{Read, Next, gives, wants, octets_of, Answers, Reads, Then}
 use Rattle.mapt_tool.specs.Replay.{home_only, planned_of, ReplaysLan, ReplaysText, ReplaysHome}
 use Rattle.mapt_tool.specs.Request.{Request, replay, rules, owner, options}
 use Rattle.mapt_tool.proofs.Steps.{octets_of-append}

@@ -1,5 +1,5 @@
 -- How the faults of a configuration become statuses.
-use Rattle.std.proofs.Common.{◌≡◌, ℕ, List, Result, Ok, Err, refl, sym, ap, ◌∙◌}
+use Rattle.std.proofs.Common.{◌≡◌, ℕ, List, Result, Ok, Err, refl, ap, ◌∙◌}
 use Rattle.rule_book.specs.declared.book.Book.{Book}
 use Rattle.mapt_setup.specs.declared.setup.Setup.{Setup}
 use Rattle.mapt_setup.specs.declared.fault.SetupFault.{SetupFault}

@@ -1,7 +1,6 @@
 -- What is true of the course of every command: it comes to one thing at most, and what it reads is bounded.
-use Rattle.std.proofs.Common.{◌≡◌, ◌⊎◌, ℕ, ◌+◌, ◌-◌, ◌*◌, ◌^◌, ◌≤◌, ◌<◌, List, [], ◌∷◌, ◌++◌, length, min, Option, Some, None, Result, Ok, Err, refl, sym, ap, subst, ◌∙◌, inl, inr, arith}
+use Rattle.std.proofs.Common.{◌≡◌, ℕ, ◌-◌, List, length, Option, Some, None, Result, Ok, Err, sym, ap, ◌∙◌, inl, inr}
 use Rattle.std.specs.Prelude.{codes}
-use Rattle.outside.specs.declared.file_id.FileId.{FileId}
 use Rattle.outside.specs.declared.file_id.FileId.TheVariants.{Config, InLan, Options}
 use Rattle.mapt_setup.specs.declared.setup.Setup.{Setup}
 use Rattle.mapt_setup.specs.declared.fault.SetupFault.{SetupFault}
@@ -11,23 +10,21 @@ use Rattle.s46_options.specs.declared.digits.HexFault.{HexFault}
 use Rattle.s46_options.specs.declared.digits.HexFault.TheVariants.{At}
 use Rattle.s46_options.specs.declared.fault.OptionFault.{OptionFault}
 use Rattle.s46_options.specs.declared.item.Item.{Item}
-use Rattle.s46_options.specs.Digits.{hex_of, fault_place}
-use Rattle.s46_options.specs.Faults.{fault_of}
+use Rattle.s46_options.specs.Digits.{fault_place}
 use Rattle.s46_options.specs.Text.{container_text}
 use Rattle.s46_options.proofs.OneReading.{one_container}
 use Rattle.std.proofs.lemmas.Option.{same_Some}
 use Rattle.mapt_tool.specs.declared.status.Status.{Status}
 use Rattle.mapt_tool.specs.declared.status.Status.TheVariants.{SetupRefused}
 use Rattle.mapt_tool.specs.Course.{IsSetup, Configures, rules_said, owner_said, Course}
-use Rattle.mapt_tool.specs.Limits.{file_limit, command_limit, limit_of}
+use Rattle.mapt_tool.specs.Limits.{command_limit, limit_of}
 use Rattle.mapt_tool.specs.Planned.{Planned, says}
 use Rattle.mapt_tool.specs.Printed.{IsHex, IsContainer, IsOptions}
-use Rattle.mapt_tool.specs.Reading.{Read, Next, gives, refuses, wants, lacks, octets_of, Answers, Reads, Goes, Then}
-use Rattle.mapt_tool.specs.Replay.{home_only, planned_of, ReplaysLan, ReplaysText, ReplaysHome}
+use Rattle.mapt_tool.specs.Reading.{Answers, Reads}
+use Rattle.mapt_tool.specs.Replay.{home_only, planned_of, ReplaysLan, ReplaysText}
 use Rattle.mapt_tool.specs.Request.{Request, replay, rules, owner, options}
 use Rattle.mapt_tool.specs.Status.{status_of}
 use Rattle.mapt_tool.proofs.Single.{IsSingle, then_single, answers_single, determined, reads_single}
-use Rattle.mapt_tool.proofs.Steps.{octets_of-append}
 
 -- ---- one thing at most
 

@@ -1,20 +1,20 @@
 -- From how a command's reading and its writing ended to what the top call promises.
-use Rattle.std.proofs.Common.{◌≡◌, ◌⊎◌, ℕ, ◌+◌, ◌-◌, ◌≤◌, ◌<◌, List, [], ◌∷◌, ◌++◌, length, Option, Some, None, Result, Ok, Err, refl, sym, ap, subst, ◌∙◌, inl, inr, arith}
+use Rattle.std.proofs.Common.{◌≡◌, ◌⊎◌, ℕ, ◌+◌, List, Option, Some, Result, Ok, Err, refl, sym, ap, subst, ◌∙◌, inl, inr, arith}
 use Rattle.octets.specs.Count.{Rose, RoseBy}
-use Rattle.outside.specs.Files.{Files, content_of}
-use Rattle.outside.specs.Seen.{FolderSeen, SinkSeen, CallFailed}
+use Rattle.outside.specs.Files.{Files}
+use Rattle.outside.specs.Seen.{FolderSeen, SinkSeen}
 use Rattle.outside.specs.declared.file_id.FileId.{FileId}
 use Rattle.mapt_tool.specs.declared.status.Status.{Status}
 use Rattle.mapt_tool.specs.declared.status.Status.TheVariants.{Done, Usage, ReadFault, WriteFault, SetupRefused, CaptureRefused, TooLong, NoMemory, NotBuilt}
-use Rattle.mapt_tool.specs.Carried.{Outside, Finished, Unfinished, Began, Carried, writing}
+use Rattle.mapt_tool.specs.Carried.{Outside, Unfinished, Carried}
 use Rattle.mapt_tool.specs.Course.{Course}
-use Rattle.mapt_tool.specs.Ended.{ComesTo, ReadFailed, FoundTooLong, Lacked, Ended, HandedOut, AreToldOf, IsToldLonger, handing}
+use Rattle.mapt_tool.specs.Ended.{ComesTo, FoundTooLong, Ended, HandedOut, AreToldOf, IsToldLonger, handing}
 use Rattle.mapt_tool.specs.Limits.{file_limit}
-use Rattle.mapt_tool.specs.Outcome.{Comes, ComesTooFar, OutcomeOf, Outcome, told_by}
+use Rattle.mapt_tool.specs.Outcome.{Comes, ComesTooFar, Outcome, told_by}
 use Rattle.mapt_tool.specs.Planned.{Planned}
 use Rattle.mapt_tool.specs.Reading.{Read, Next, gives, refuses, wants, lacks, AreOf, octets_of}
 use Rattle.mapt_tool.specs.Request.{Request, Asks, IsUsage}
-use Rattle.mapt_tool.specs.Serves.{IsPlanned, IsDone, IsUnread, IsUnwritten, IsTooLong, IsRefused, IsBegun, IsLacking, Ends, NothingFailed, Tells, Serves}
+use Rattle.mapt_tool.specs.Serves.{Ends, NothingFailed, Tells, Serves}
 use Rattle.mapt_tool.proofs.Bounds.{course_bounded}
 use Rattle.mapt_tool.proofs.Courses.{course_single}
 use Rattle.mapt_tool.proofs.Forms.{one_request}

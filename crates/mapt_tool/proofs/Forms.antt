@@ -12,11 +12,10 @@ use Rattle.octets.specs.Text4.{IsText4, text4, addr4_at}
 use Rattle.octets.proofs.Spelling4.{addr4_again, addr4_found, one_text4, text4_spells}
 use Rattle.mapt_tool.specs.declared.words.Kind.{Kind}
 use Rattle.mapt_tool.specs.declared.words.Kind.TheVariants.{Verb, FileName, Text, Generation, Address, Port}
-use Rattle.mapt_tool.specs.declared.words.Verb.{Verb as VerbType}
 use Rattle.mapt_tool.specs.declared.words.Verb.TheVariants.{Replay, Rules, Owner, Options}
 use Rattle.mapt_tool.specs.declared.words.TheConstants.{REPLAY, RULES, OWNER, OPTIONS}
 use Rattle.mapt_tool.specs.Request.{Request, replay, rules, owner, options, words_of, IsAskable, Asks, Begins, IsUsage}
-use Rattle.mapt_tool.specs.Words.{keyword_of, number_up_to, fits, fitting, forms, usage_number}
+use Rattle.mapt_tool.specs.Words.{keyword_of, number_up_to, fits, fitting, usage_number}
 use Rattle.mapt_tool.proofs.Numbers.{number_found, number_again}
 
 -- each word fits its place of the form, and there are as many words as places

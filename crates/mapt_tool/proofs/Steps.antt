@@ -1,19 +1,17 @@
 -- What is told of steps that follow one another.
-use Rattle.std.proofs.Common.{◌≡◌, ◌⊎◌, ℕ, ◌+◌, ◌≤◌, ◌<◌, List, [], ◌∷◌, ◌++◌, length, All, Option, None, Some, Result, Ok, Err, refl, sym, ap, subst, ◌∙◌, inl, inr, arith}
-use Rattle.std.specs.List.{sum_by}
+use Rattle.std.proofs.Common.{◌≡◌, ℕ, ◌+◌, ◌≤◌, ◌<◌, List, [], ◌∷◌, ◌++◌, length, Option, None, Some, Result, Ok, Err, refl, ap, subst, ◌∙◌, inl, inr, arith}
 use Rattle.std.proofs.lemmas.List.Sums.{sum_by-append}
 use Rattle.std.proofs.lemmas.List.{length-take}
 use Rattle.std.proofs.lemmas.List.Elements.{All-append, All-nil, All-cons}
 use Rattle.octets.specs.Count.{counted}
 use Rattle.outside.specs.Files.{Files, content_of}
-use Rattle.outside.specs.Seen.{FolderSeen, CallFailed}
+use Rattle.outside.specs.Seen.{FolderSeen}
 use Rattle.outside.specs.declared.file_id.FileId.{FileId}
-use Rattle.outside.specs.declared.file_id.Operation.TheVariants.{Read as Reading}
 use Rattle.mapt_tool.specs.declared.status.Status.{Status}
 use Rattle.mapt_tool.specs.declared.status.Status.TheVariants.{Done, Usage, ReadFault, WriteFault, TooLong, NoMemory}
-use Rattle.mapt_tool.specs.Ended.{AreToldOf, IsToldLonger, handing, HandedOut, ComesTo, Within, ReadFailed, FoundTooLong, LackedWithin, Lacked, Ended, Given}
+use Rattle.mapt_tool.specs.Ended.{AreToldOf, IsToldLonger, handing, HandedOut, ComesTo, Within, Lacked, Ended, Given}
 use Rattle.mapt_tool.specs.Pieces.{HoldsFrom, IsWhole, PieceFails}
-use Rattle.mapt_tool.specs.Reading.{Read, Next, gives, refuses, wants, lacks, octets_of, Answers, Reads, Goes, Then, AreOf}
+use Rattle.mapt_tool.specs.Reading.{Read, Next, gives, refuses, wants, lacks, octets_of, Answers, Reads, Goes, Then}
 
 -- counts add up
 pub counted_twice : (h a b : ℕ) → counted (counted h a) b ≡ counted h (a + b)

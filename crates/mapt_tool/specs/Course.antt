@@ -1,6 +1,6 @@
 -- What each command comes to, step by step: the files that it reads, in their order, and then what it does to the
 -- outside or why it refuses. The definitions of this file are relations, since what a text sets up is one.
-use Rattle.std.specs.Prelude.{◌≡◌, ℕ, ◌-◌, List, length, map, Result, Ok, Err}
+use Rattle.std.specs.Prelude.{◌≡◌, ℕ, List, map, Result, Ok, Err}
 use Rattle.outside.specs.declared.file_id.FileId.TheVariants.{Config, Options}
 use Rattle.rule_book.specs.declared.book.Book.{Book}
 use Rattle.rule_book.specs.Book.{rules_of, dmr_of}

@@ -1,6 +1,6 @@
 -- Steps that read files: what a step comes to, by the files that were handed to it, in their order. A step is a
 -- relation between these files and what comes next, for any kind of fault.
-use Rattle.std.specs.Prelude.{◌≡◌, ◌⊎◌, ℕ, ◌+◌, ◌<◌, ◌≤◌, List, [], ◌∷◌, ◌++◌, length, All, Result, Ok, Err}
+use Rattle.std.specs.Prelude.{◌≡◌, ◌⊎◌, ℕ, ◌≤◌, List, [], ◌∷◌, ◌++◌, length, All, Result, Ok, Err}
 use Rattle.std.specs.List.{sum_by}
 use Rattle.outside.specs.Files.{Files, content_of}
 use Rattle.outside.specs.declared.file_id.FileId.{FileId}

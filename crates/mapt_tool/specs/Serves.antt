@@ -2,7 +2,6 @@
 use Rattle.std.specs.Prelude.{◌≡◌, ◌⊎◌, ℕ, ◌+◌, List, Some, Result}
 use Rattle.octets.specs.Count.{Rose, RoseBy}
 use Rattle.outside.specs.Files.{Files}
-use Rattle.outside.specs.Seen.{FolderSeen}
 use Rattle.outside.specs.declared.file_id.FileId.{FileId}
 use Rattle.mapt_tool.specs.declared.status.Status.{Status}
 use Rattle.mapt_tool.specs.declared.status.Status.TheVariants.{Done, Usage, ReadFault, WriteFault, TooLong, NoMemory}

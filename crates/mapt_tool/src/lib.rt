@@ -9,6 +9,7 @@ mod laws;
 mod plan;
 mod printed;
 mod reading;
+mod refusal;
 mod replay;
 mod status;
 mod tool;

@@ -2,6 +2,7 @@ ghost use Rattle.std.specs.Prelude.{◌≡◌};
 ghost use Rattle.mapt_tool.specs.Status.{number_of, status_of};
 ghost use Rattle.mapt_tool.specs.declared.status.Status.TheVariants.{NoMemory as OutOfMemory};
 
+use crate::refusal::Refusal;
 use mapt_setup::{SetupCause, SetupFault};
 use octets::NoMemory;
 use outside::FileId;
@@ -23,8 +24,8 @@ pub enum Status {
     /// A write of this file failed.
     #[error("{0} could not be written [WriteFault({0:?})]")]
     WriteFault(FileId),
-    /// The configuration breaks a rule: the first cause, and its least place.
-    #[error("the configuration is refused: {0}, at {1} [SetupRefused({0:?}, {1})]")]
+    /// The configuration or the option file breaks a rule: the first cause, and its least place.
+    #[error("refused: {refusal}", refusal = Refusal {cause: *.0, place: *.1})]
     SetupRefused(SetupCause, u32),
     /// This capture has this fault.
     #[error("{0} is refused: {1} [CaptureRefused({0:?}, {1:?})]")]

@@ -1,5 +1,5 @@
 -- What the folders and sinks over memory hold, and which of their calls fail.
-use Rattle.std.specs.Prelude.{◌≡◌, ◌⊎◌, ℕ, List, Option, Some, None, Contains}
+use Rattle.std.specs.Prelude.{◌≡◌, ◌⊎◌, ℕ, List, Some, None, Contains}
 use Rattle.std.specs.FinMap.{get}
 use Rattle.octets.specs.Count.{counted}
 use Rattle.outside.specs.Files.{Files}

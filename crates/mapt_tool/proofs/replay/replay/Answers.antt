@@ -1,4 +1,4 @@
-use Rattle.std.proofs.Common.{◌-◌, length, ap}
+use Rattle.std.proofs.Common.{◌-◌, length}
 use Rattle.outside.specs.Seen.{folder_seen}
 use Rattle.outside.specs.declared.file_id.FileId.TheVariants.{Config}
 use Rattle.mapt_tool.specs.Limits.{limit_of, command_limit}

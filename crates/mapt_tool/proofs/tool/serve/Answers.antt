@@ -1,4 +1,4 @@
-use Rattle.std.proofs.Common.{refl, subst}
+use Rattle.std.proofs.Common.{refl}
 use Rattle.outside.specs.Seen.{folder_seen, sink_seen}
 use Rattle.mapt_tool.specs.Words.{seen}
 use Rattle.mapt_tool.proofs.Ending.{carried_ends, stopped_ends}

@@ -1,6 +1,5 @@
-use Rattle.std.proofs.Common.{◌≡◌, ℕ, ◌≤◌, ◌<◌, List, [], ◌∷◌, length, get_or, map, refl, sym, subst, IfNone, arith}
+use Rattle.std.proofs.Common.{◌≡◌, ℕ, ◌≤◌, ◌<◌, List, [], ◌∷◌, length, get_or, map, refl, arith}
 use Rattle.std.specs.String.{string_bytes}
-use Rattle.mapt_tool.specs.Request.{Request, Asks}
 use Rattle.mapt_tool.proofs.words.command_in.Goals as goal
 
 -- a list of five is its five items
