@@ -1,4 +1,5 @@
 pub mod Icmp46
+pub mod Icmp64
 pub mod Inner
 pub mod Mtu
 pub mod Table

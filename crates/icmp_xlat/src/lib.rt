@@ -6,7 +6,9 @@ mod ends;
 mod inner;
 mod mtu;
 mod table;
+mod to_icmp4;
 mod to_icmp6;
 
 pub use ends::Ends;
+pub use to_icmp4::icmp64;
 pub use to_icmp6::icmp46;

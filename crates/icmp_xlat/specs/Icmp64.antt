@@ -1,0 +1,104 @@
+-- An ICMPv6 packet translated to ICMPv4 (after RFC 7915, sections 5.2 and 5.3). Sums are made anew.
+use Rattle.std.specs.Prelude.{◌≡◌, ℕ, ◌+◌, ◌*◌, ◌/◌, ◌%◌, ◌^◌, ◌≤◌, ◌⊎◌, Bool, false, not, ◌==◌, ◌||◌, ◌&&◌, if◌then◌else◌, List, length, take, Option, Some, None, Result, Err, IfOk, IfErr, IsErr}
+use Rattle.std.specs.Option.{option_map}
+use Rattle.octets.specs.Field.{octet}
+use Rattle.octets.specs.declared.address.Addr4.{Addr4}
+use Rattle.octets.specs.declared.mtus.Mtus.{Mtus}
+use Rattle.octets.specs.declared.cause.Cause.TheVariants.{IcmpKind}
+use Rattle.octets.specs.declared.cause.Fault.{Fault}
+use Rattle.octets.specs.declared.cause.Fault.TheVariants.{Drop, NoMemory}
+use Rattle.ip4_packet.specs.Written.{written4}
+use Rattle.ip6_packet.specs.declared.head.Head6.{Head6}
+use Rattle.ip6_packet.specs.Grammar.{payload_of, Is6}
+use Rattle.ip6_packet.specs.Causes.{HasNoCause6}
+use Rattle.ip6_packet.specs.Fragment.{more_fragments, fragment_offset}
+use Rattle.icmp_messages.specs.declared.icmp4.Icmp4.{Icmp4}
+use Rattle.icmp_messages.specs.declared.icmp6.Icmp6.{Icmp6}
+use Rattle.icmp_messages.specs.declared.inner6.Inner6.{Inner6}
+use Rattle.icmp_messages.specs.Message.{IsIcmp6, message4}
+use Rattle.icmp_messages.specs.Inner.{IsInner6}
+use Rattle.xlat64.specs.Head.{translated}
+use Rattle.icmp_xlat.specs.declared.ends.Ends.{Ends}
+use Rattle.icmp_xlat.specs.declared.table.Row.{Row}
+use Rattle.icmp_xlat.specs.declared.table.Rest.{Rest}
+use Rattle.icmp_xlat.specs.declared.table.Rest.TheVariants.{Query, Zero, Protocol, Mtu, Pointer}
+use Rattle.icmp_xlat.specs.Table.{table64, row_of, pointers64, pointer_of}
+use Rattle.icmp_xlat.specs.Mtu.{mtu64}
+use Rattle.icmp_xlat.specs.Inner.{inner64}
+
+-- The four octets behind the sum of an error: 0 but for the pointer, which has the first of them (RFC 792), and the
+-- MTU, which has the last two (RFC 1191, section 4).
+abbrev pub rest64 : Mtus → ℕ → Rest → Option ℕ
+rest64 mtus rest Query = None
+rest64 mtus rest Zero = Some 0
+rest64 mtus rest Protocol = Some 0
+rest64 mtus rest Mtu = Some (mtu64 mtus rest)
+rest64 mtus rest Pointer = option_map (λ pointer. pointer * 2 ^ 24) (pointer_of pointers64 rest)
+
+-- The embedded packet of an ICMPv6 error: its body, or of types 1 and 3 as many words of 64 bits as its length octet
+-- says, which is the first behind the sum, where it isn't 0. What follows is an extension, and is dropped (RFC 4884).
+abbrev pub embedded64 : Icmp6 → List ℕ
+embedded64 m =
+    let words = m.rest / 2 ^ 24 in
+    if (m.kind == 1 || m.kind == 3) && not (words == 0) then take (8 * words) m.body else m.body
+
+-- a query: its identifier becomes the source port, its sequence and data stay
+abbrev pub query64 : Icmp6 → Row → Ends Addr4 → Icmp4
+query64 m row ends =
+    record { kind = row.to_kind; code = row.to_code; rest = ends.ports.src * 2 ^ 16 + m.rest % 2 ^ 16; body = m.body }
+
+-- an error about this embedded packet
+abbrev pub error64 : Row → ℕ → Inner6 → Ends Addr4 → Icmp4
+error64 row rest inner ends =
+    record { kind = row.to_kind; code = row.to_code; rest = rest; body = inner64 inner ends }
+
+-- the packet with this message: the header by the table of headers, with the length of the message
+abbrev pub with_message64 : Head6 → Icmp4 → Ends Addr4 → ℕ → List ℕ
+with_message64 head m ends id =
+    written4 (translated (record head { length = 8 + length m.body }) ends.src ends.dst id) (message4 m)
+
+-- the octets are an ICMPv6 packet of these headers and this message, that has none of the causes for which it is
+-- dropped but perhaps that it has no translation
+pub record IsMessage64 (head : Head6) (m : Icmp6) (octets : List ℕ) : Type 0 where
+  pub is : Is6 head (payload_of head octets) octets
+  pub header : HasNoCause6 octets
+  pub protocol : head.upper ≡ 58
+  pub unrouted : head.left ≡ None
+  pub offset : fragment_offset head.frag ≡ 0
+  pub whole : more_fragments head.frag ≡ false
+  pub message : IsIcmp6 head.src head.dst m (payload_of head octets)
+
+-- the message has no translation: no row of the table, or no row of the table of pointers
+abbrev pub LacksPointer64 : Icmp6 → Option Row → Type 0
+LacksPointer64 m None = Unit {0}
+LacksPointer64 m (Some row) = (row.rest ≡ Pointer) × (pointer_of pointers64 m.rest ≡ None)
+
+abbrev pub HasNoRow64 : Icmp6 → Type 0
+HasNoRow64 m = LacksPointer64 m (row_of table64 m.kind m.code)
+
+-- a message of this row, that is no query, embeds a packet
+abbrev pub EmbedsOne64 : Icmp6 → Option Row → Type 0
+EmbedsOne64 m None = Unit {0}
+EmbedsOne64 m (Some row) = (row.rest ≡ Query) ⊎ ((inner : Inner6) × IsInner6 inner (embedded64 m))
+
+-- The answer to a packet of these headers and this message. A query and an error are answered by the packet with their
+-- translated message; IcmpKind comes exactly where a message has no translation, but for want of memory.
+pub record IsAnswer64 (mtus : Mtus) (head : Head6) (m : Icmp6) (ends : Ends Addr4) (id : ℕ) (result : Result (List ℕ) Fault) : Type 0 where
+  pub query : (row : Row) → row_of table64 m.kind m.code ≡ Some row → row.rest ≡ Query
+      → IfOk result (λ octets. octets ≡ with_message64 head (query64 m row ends) ends id)
+  pub error : (row : Row) (inner : Inner6) (rest : ℕ) → row_of table64 m.kind m.code ≡ Some row → IsInner6 inner (embedded64 m)
+      → rest64 mtus m.rest row.rest ≡ Some rest
+      → IfOk result (λ octets. octets ≡ with_message64 head (error64 row rest inner ends) ends id)
+  pub refused : result ≡ Err (Drop IcmpKind) → HasNoRow64 m
+  pub lacking : HasNoRow64 m → IsErr result
+  pub no_other : IfErr result (λ fault. (fault ≡ Drop IcmpKind) ⊎ (fault ≡ NoMemory))
+
+-- what is translated: an ICMPv6 packet as above with a hop limit of at least 2, whose embedded packet can be read; a
+-- query fits IPv4
+pub record IsAccepted64 (octets : List ℕ) : Type 0 where
+  pub head : Head6
+  pub message : Icmp6
+  pub is : IsMessage64 head message octets
+  pub alive : 2 ≤ head.hop
+  pub embeds : EmbedsOne64 message (row_of table64 message.kind message.code)
+  pub fits : octet (payload_of head octets) 0 ≡ 128 ⊎ octet (payload_of head octets) 0 ≡ 129 → head.length ≤ 65515
