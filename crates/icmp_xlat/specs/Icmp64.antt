@@ -1,5 +1,5 @@
 -- An ICMPv6 packet translated to ICMPv4 (after RFC 7915, sections 5.2 and 5.3). Sums are made anew.
-use Rattle.std.specs.Prelude.{◌≡◌, ℕ, ◌+◌, ◌*◌, ◌/◌, ◌%◌, ◌^◌, ◌≤◌, ◌⊎◌, Bool, false, not, ◌==◌, ◌||◌, ◌&&◌, if◌then◌else◌, List, length, take, Option, Some, None, Result, Err, IfOk, IfErr, IsErr}
+use Rattle.std.specs.Prelude.{◌≡◌, ℕ, ◌+◌, ◌*◌, ◌/◌, ◌%◌, ◌^◌, ◌≤◌, ◌⊎◌, false, not, ◌==◌, ◌||◌, ◌&&◌, if◌then◌else◌, List, length, take, Option, Some, None, Result, Err, IfOk, IfErr, IsErr}
 use Rattle.std.specs.Option.{option_map}
 use Rattle.octets.specs.Field.{octet}
 use Rattle.octets.specs.declared.address.Addr4.{Addr4}

@@ -12,7 +12,6 @@ use Rattle.ip4_packet.specs.declared.head.Head4.{Head4}
 use Rattle.ip4_packet.specs.Written.{written4}
 use Rattle.ip6_packet.specs.declared.head.Head6.{Head6}
 use Rattle.ip6_packet.specs.Written.{written6}
-use Rattle.l4_headers.specs.declared.ports.Ports.{Ports}
 use Rattle.l4_headers.specs.Transport.{l4_of, with_l4}
 use Rattle.l4_headers.specs.PseudoHeader.{pseudo_header6}
 use Rattle.l4_headers.specs.Readdressed.{readdressed_sum}

@@ -12,3 +12,6 @@ mod to_icmp6;
 pub use ends::Ends;
 pub use to_icmp4::icmp64;
 pub use to_icmp6::icmp46;
+
+#[cfg(test)]
+mod tests;

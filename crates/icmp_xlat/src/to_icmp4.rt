@@ -28,7 +28,7 @@ const UNREACHABLE: u8 = 1;
 const TIME_EXCEEDED: u8 = 3;
 
 /// The embedded packet, without an extension behind it (RFC 4884).
-fn embedded64(message: &Icmp6) -> &[u8]
+pub(crate) fn embedded64(message: &Icmp6) -> &[u8]
     ensures { result.now ≡ embedded64 message.now }
 {
     let body = message.body.as_slice();

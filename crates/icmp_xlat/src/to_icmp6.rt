@@ -30,7 +30,7 @@ const NEXT_HEADER: u32 = 6;
 const MOST_EMBEDDED: usize = 1232;
 
 /// The embedded packet, without an extension behind it (RFC 4884).
-fn embedded46(message: &Icmp4) -> &[u8]
+pub(crate) fn embedded46(message: &Icmp4) -> &[u8]
     ensures { result.now ≡ embedded46 message.now }
 {
     let body = message.body.as_slice();

@@ -1,13 +1,10 @@
-use Rattle.std.proofs.Common.{◌≡◌, ◌≢◌, ℕ, sym, subst, ◌∙◌, List, Some, None, Ok, Err, ap}
+use Rattle.std.proofs.Common.{◌≡◌, ℕ, sym, ◌∙◌, List, Some, Ok, Err, ap}
 use Rattle.std.specs.Prelude.{Option, IfOk}
 use Rattle.octets.specs.declared.cause.Fault.{Fault}
 use Rattle.icmp_messages.specs.declared.icmp4.Icmp4.{Icmp4}
-use Rattle.icmp_messages.specs.declared.inner6.Inner6.{Inner6}
-use Rattle.icmp_messages.specs.Inner.{IsInner6}
 use Rattle.icmp_xlat.specs.declared.table.Row.{Row}
-use Rattle.icmp_xlat.specs.declared.table.Rest.TheVariants.{Query}
 use Rattle.icmp_xlat.specs.Table.{row_of, table64}
-use Rattle.icmp_xlat.specs.Icmp64.{rest64, embedded64, query64, error64, with_message64, LacksPointer64, HasNoRow64}
+use Rattle.icmp_xlat.specs.Icmp64.{query64, error64, with_message64}
 use Rattle.icmp_xlat.proofs.to_icmp4.answer64.Goals as goal
 
 -- the rows of one list are one

@@ -1,4 +1,4 @@
-use Rattle.std.proofs.Common.{◌≡◌, sym, subst, ◌∙◌, ap, refl, rules, arith, ⊎_elim, Err, Ok, inr}
+use Rattle.std.proofs.Common.{◌≡◌, sym, subst, ◌∙◌, ap, refl, arith, ⊎_elim, Err, Ok, inr}
 use Rattle.std.specs.Prelude.{Result, List, ℕ, IsErrAnd}
 use Rattle.octets.specs.declared.address.Addr4.{Addr4}
 use Rattle.octets.specs.declared.mtus.Mtus.{Mtus}
@@ -11,7 +11,7 @@ use Rattle.icmp_messages.specs.declared.icmp6.Icmp6.{Icmp6}
 use Rattle.icmp_messages.specs.Message.{IsIcmp6}
 use Rattle.icmp_xlat.specs.declared.ends.Ends.{Ends}
 use Rattle.icmp_xlat.specs.Table.{row_of, table64}
-use Rattle.icmp_xlat.specs.Icmp64.{EmbedsOne64, IsMessage64, IsAnswer64}
+use Rattle.icmp_xlat.specs.Icmp64.{EmbedsOne64, IsAnswer64}
 use Rattle.icmp_xlat.proofs.to_icmp4.icmp64.Goals as goal
 
 pub answer64-requires-clause-embeds : goal.answer64-requires-clause-embeds

@@ -1,12 +1,10 @@
-use Rattle.std.proofs.Common.{◌≡◌, ◌≤◌, ◌⊎◌, length, Err, ap, sym, arith, rules, ⊎_elim, List, ℕ}
-use Rattle.octets.specs.declared.cause.Cause.TheVariants.{BadInner, IcmpKind}
-use Rattle.octets.specs.declared.cause.Fault.TheVariants.{Drop, NoMemory}
+use Rattle.std.proofs.Common.{◌≡◌, ◌≤◌, length, Err, ap, arith, rules, ⊎_elim, List, ℕ}
+use Rattle.octets.specs.declared.cause.Fault.TheVariants.{NoMemory}
 use Rattle.ip6_packet.specs.Grammar.{payload_of}
 use Rattle.icmp_messages.specs.declared.inner6.Inner6.{Inner6}
-use Rattle.icmp_messages.specs.Inner.{IsInner6, IsCarried6, IsBadInner6}
+use Rattle.icmp_messages.specs.Inner.{IsInner6, IsBadInner6}
 use Rattle.icmp_messages.proofs.InnerLemmas.{not_bad6}
 use Rattle.icmp_xlat.specs.declared.table.Rest.TheVariants.{Query}
-use Rattle.icmp_xlat.specs.Icmp64.{embedded64}
 use Rattle.icmp_xlat.proofs.to_icmp4.translated64.Goals as goal
 use Rattle.icmp_xlat.proofs.to_icmp4.translated64.Goals.{in-Query, in_default}
 

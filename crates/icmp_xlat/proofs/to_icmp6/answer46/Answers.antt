@@ -1,13 +1,10 @@
-use Rattle.std.proofs.Common.{◌≡◌, ◌≢◌, ℕ, sym, subst, ◌∙◌, List, Some, None, Ok, Err, ap}
+use Rattle.std.proofs.Common.{◌≡◌, ℕ, sym, ◌∙◌, List, Some, Ok, Err, ap}
 use Rattle.std.specs.Prelude.{Option, IfOk}
 use Rattle.octets.specs.declared.cause.Fault.{Fault}
 use Rattle.icmp_messages.specs.declared.icmp6.Icmp6.{Icmp6}
-use Rattle.icmp_messages.specs.declared.inner4.Inner4.{Inner4}
-use Rattle.icmp_messages.specs.Inner.{IsInner4}
 use Rattle.icmp_xlat.specs.declared.table.Row.{Row}
-use Rattle.icmp_xlat.specs.declared.table.Rest.TheVariants.{Query}
 use Rattle.icmp_xlat.specs.Table.{row_of, table46}
-use Rattle.icmp_xlat.specs.Icmp46.{rest46, embedded46, query46, error46, with_message46, LacksPointer46, HasNoRow46}
+use Rattle.icmp_xlat.specs.Icmp46.{query46, error46, with_message46}
 use Rattle.icmp_xlat.proofs.to_icmp6.answer46.Goals as goal
 
 -- the rows of one list are one

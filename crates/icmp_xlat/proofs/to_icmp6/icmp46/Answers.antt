@@ -1,10 +1,10 @@
-use Rattle.std.proofs.Common.{◌≡◌, sym, subst, ◌∙◌, ap}
+use Rattle.std.proofs.Common.{◌≡◌, sym, subst}
 use Rattle.ip4_packet.specs.declared.head.Head4.{Head4}
 use Rattle.ip4_packet.specs.Grammar.{payload_of}
 use Rattle.icmp_messages.specs.declared.icmp4.Icmp4.{Icmp4}
 use Rattle.icmp_messages.specs.Message.{IsIcmp4}
 use Rattle.icmp_xlat.specs.Table.{row_of, table46}
-use Rattle.icmp_xlat.specs.Icmp46.{EmbedsOne46, IsMessage46, IsAnswer46}
+use Rattle.icmp_xlat.specs.Icmp46.{EmbedsOne46, IsAnswer46}
 use Rattle.icmp_xlat.proofs.to_icmp6.icmp46.Goals as goal
 
 pub answer46-requires-clause-embeds : goal.answer46-requires-clause-embeds
