@@ -4,12 +4,14 @@
 
 mod ends;
 mod inner;
+mod laws;
 mod mtu;
 mod table;
 mod to_icmp4;
 mod to_icmp6;
 
 pub use ends::Ends;
+pub use laws::{a_translated_icmpv4_sum_is_right, a_translated_icmpv6_sum_is_right};
 pub use to_icmp4::icmp64;
 pub use to_icmp6::icmp46;
 
