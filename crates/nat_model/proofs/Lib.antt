@@ -8,3 +8,5 @@ pub mod Freed
 pub mod NextGeneration
 pub mod WholeSteps
 pub mod Others
+pub mod FirstTests
+pub mod NoPort

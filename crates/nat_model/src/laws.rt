@@ -1,22 +1,24 @@
-ghost use Rattle.std.specs.Prelude.{◌≡◌, ℕ, ◌<◌, ◌↔◌, IsTrue, Bool, List, None};
-ghost use Rattle.std.specs.List.{Any};
+ghost use Rattle.std.specs.Prelude.{◌≡◌, ℕ, ◌<◌, ◌↔◌, IsTrue, Bool, false, List, Some, None};
+ghost use Rattle.std.specs.List.{Any, find};
 ghost use Rattle.octets.specs.declared.address.Addr4.{Addr4};
+ghost use Rattle.octets.specs.declared.cause.Cause.TheVariants.{NoBasicRule, NoPort, WrongDestination};
 ghost use Rattle.octets.specs.declared.parcel.Parcel.{Parcel};
 ghost use Rattle.octets.specs.declared.prefix.Prefix6.{Prefix6};
 ghost use Rattle.octets.specs.declared.proto.Proto.{Proto};
 ghost use Rattle.rule_book.specs.Holder.{Holder};
 ghost use Rattle.nat_model.specs.declared.answer.Answer.TheVariants.{In};
 ghost use Rattle.nat_model.specs.declared.ask.Ask.{Ask};
-ghost use Rattle.nat_model.specs.declared.ask.Ask.TheVariants.{Inward};
+ghost use Rattle.nat_model.specs.declared.ask.Ask.TheVariants.{Inward, Outward};
+ghost use Rattle.nat_model.specs.declared.ask.End4.{End4};
 ghost use Rattle.nat_model.specs.declared.ask.Far.{Far};
 ghost use Rattle.nat_model.specs.declared.ask.Part.TheVariants.{Whole};
 ghost use Rattle.nat_model.specs.declared.binding.Binding.{Binding};
 ghost use Rattle.nat_model.specs.declared.claim.Wish.{Wish};
-ghost use Rattle.nat_model.specs.Binding.{is_of_port};
+ghost use Rattle.nat_model.specs.Binding.{is_of_host, is_of_port};
 ghost use Rattle.nat_model.specs.Claim.{claimed_port};
-ghost use Rattle.nat_model.specs.State.{NatState, Moment};
-ghost use Rattle.nat_model.specs.Machine.{nat};
-ghost use Rattle.nat_model.specs.Refusal.{proto_of, settled, of_others, IsFull};
+ghost use Rattle.nat_model.specs.State.{NatState, Moment, holder_at};
+ghost use Rattle.nat_model.specs.Machine.{nat, arrives};
+ghost use Rattle.nat_model.specs.Refusal.{cause_in, proto_of, settled, of_others, IsFull};
 ghost use Rattle.nat_model.specs.Run.{Asked, state_after};
 ghost use Rattle.nat_model.specs.Sound.{IsSound};
 
@@ -51,4 +53,24 @@ pub fn no_port_is_left_exactly_where_all_are_bound()
 pub fn other_protocols_keep_their_bindings()
     ensures { (prefix : Prefix6) (s : NatState) (m : Moment) (ask : Ask)
         → of_others (proto_of ask) (nat prefix s m ask).after.bindings ≡ of_others (proto_of ask) (settled prefix s m).bindings }
+{}
+
+/// Law: a step is refused for want of a rule exactly where the edge holds nothing, and for its destination exactly
+/// where it holds something and the packet is for another.
+pub fn a_holder_and_a_destination_are_tested_first()
+    ensures no_rule { (prefix : Prefix6) (s : NatState) (m : Moment) (ask : Ask)
+        → cause_in (nat prefix s m ask).answer ≡ Some NoBasicRule ↔ holder_at prefix (settled prefix s m) ≡ None }
+    ensures destination { (prefix : Prefix6) (s : NatState) (m : Moment) (ask : Ask) (h : Holder)
+        → holder_at prefix (settled prefix s m) ≡ Some h
+        → cause_in (nat prefix s m ask).answer ≡ Some WrongDestination ↔ arrives h ask ≡ false }
+{}
+
+/// Law: a whole outward flow of an edge that holds something is refused for want of a port exactly where its host end
+/// has no binding, and unexpired bindings of its protocol have every port that the edge may claim.
+pub fn a_flow_finds_no_port_exactly_where_all_are_bound()
+    ensures { (prefix : Prefix6) (s : NatState) (m : Moment) (h : Holder) (proto : Proto) (near far : End4) (flags : ℕ)
+        → holder_at prefix (settled prefix s m) ≡ Some h
+        → near.port < 65536
+        → cause_in (nat prefix s m (Outward false proto near far flags Whole)).answer ≡ Some NoPort
+        ↔ ((find (is_of_host proto near) (settled prefix s m).bindings ≡ None) × IsFull h proto (settled prefix s m).bindings) }
 {}
