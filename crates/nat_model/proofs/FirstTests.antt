@@ -4,7 +4,7 @@ use Rattle.std.specs.List.{find}
 use Rattle.std.proofs.lemmas.Bool.{cond_both, cases_Bool}
 use Rattle.octets.specs.declared.address.Addr4.{Addr4}
 use Rattle.octets.specs.declared.cause.Cause.{Cause}
-use Rattle.octets.specs.declared.cause.Cause.TheVariants.{NoBasicRule, WrongDestination, Spoofed, NotDefault}
+use Rattle.octets.specs.declared.cause.Cause.TheVariants.{NoBasicRule, WrongDestination}
 use Rattle.octets.specs.declared.parcel.Parcel.{Parcel}
 use Rattle.octets.specs.declared.prefix.Prefix6.{Prefix6}
 use Rattle.octets.specs.declared.proto.Proto.{Proto}

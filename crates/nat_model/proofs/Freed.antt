@@ -1,5 +1,5 @@
 -- What a step frees is what its fragment frees, or nothing.
-use Rattle.std.proofs.Common.{◌≡◌, ◌⊎◌, ℕ, ◌≤◌, max, arith, Bool, true, false, cond, List, [], Option, Some, None, Result, Ok, Err, refl, sym, ap, ◌∙◌, subst, inl, inr}
+use Rattle.std.proofs.Common.{◌≡◌, ℕ, ◌≤◌, max, arith, Bool, true, false, cond, List, [], Option, Some, None, Result, Ok, Err, refl, sym, ap, ◌∙◌, subst, inl, inr}
 use Rattle.std.specs.Prelude.{nat_lt}
 use Rattle.std.specs.List.{find}
 use Rattle.std.specs.Result.{IfOk}
@@ -15,10 +15,8 @@ use Rattle.frag_table.specs.declared.answer.FragAnswer.{FragAnswer}
 use Rattle.frag_table.specs.declared.answer.FragAnswer.TheVariants.{Noted, Known, Held, Released, Full}
 use Rattle.frag_table.specs.State.{FragState}
 use Rattle.frag_table.specs.Frag.{frag, FragStep, freed_by, frag_now, live_at}
-use Rattle.nat_model.specs.declared.answer.Answer.{Answer}
 use Rattle.nat_model.specs.declared.answer.Answer.TheVariants.{Out, Turn}
 use Rattle.nat_model.specs.declared.ask.End4.{End4}
-use Rattle.nat_model.specs.declared.ask.Far.{Far}
 use Rattle.nat_model.specs.declared.ask.Ask.{Ask}
 use Rattle.nat_model.specs.declared.ask.Ask.TheVariants.{Outward, Inward, Keep}
 use Rattle.nat_model.specs.declared.binding.Binding.{Binding}
@@ -30,7 +28,7 @@ use Rattle.nat_model.specs.Claim.{Bound, bound}
 use Rattle.nat_model.specs.Fragment.{ports_of, part_of, frag_ask_of}
 use Rattle.nat_model.specs.Remote.{remote, sent, is_own, reached}
 use Rattle.nat_model.specs.State.{Generation, NatState, NatStep, Moment, holder_at}
-use Rattle.nat_model.specs.Machine.{refuses, sent_from, sent_by, sent_flow, sent_error_by, sent_error, received_by, received, kept_by, keeps, received_from, passed, told, after_frag, gathered, arrives, held_by, at_time, staying, renewed, timed, with_bindings, with_entry, nat}
+use Rattle.nat_model.specs.Machine.{refuses, sent_by, sent_flow, sent_error_by, sent_error, received_by, received, kept_by, keeps, received_from, passed, told, gathered, arrives, held_by, at_time, staying, renewed, timed, nat}
 use Rattle.nat_model.specs.Waiting.{freed_of, FreesAtMost}
 
 sent-frees : (h : Holder) (book : Generation) (outside : ℕ) (far : End4) (freed : List Parcel) → freed_of (sent h book outside far freed) ≡ freed

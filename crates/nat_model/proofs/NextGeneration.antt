@@ -1,24 +1,18 @@
 -- The generation of the rules that a step leaves.
-use Rattle.std.proofs.Common.{◌≡◌, ◌⊎◌, ℕ, ◌≤◌, max, arith, Bool, true, false, cond, List, [], Option, Some, None, Result, Ok, Err, refl, sym, ap, ◌∙◌, subst, inl, inr}
+use Rattle.std.proofs.Common.{◌≡◌, ℕ, max, arith, Bool, true, false, cond, List, [], Option, Some, None, Result, Ok, Err, refl, ap, ◌∙◌}
 use Rattle.std.specs.Prelude.{nat_lt}
 use Rattle.std.specs.List.{find}
-use Rattle.std.specs.Result.{IfOk}
 use Rattle.octets.specs.declared.parcel.Parcel.{Parcel}
 use Rattle.octets.specs.declared.prefix.Prefix6.{Prefix6}
 use Rattle.octets.specs.declared.proto.Proto.{Proto}
 use Rattle.octets.specs.declared.cause.Cause.{Cause}
 use Rattle.octets.specs.declared.cause.Cause.TheVariants.{WrongDestination}
 use Rattle.rule_book.specs.Holder.{Holder, holder_of}
-use Rattle.frag_table.specs.declared.note.Note.{Note}
 use Rattle.frag_table.specs.declared.ask.FragAsk.{FragAsk}
 use Rattle.frag_table.specs.declared.answer.FragAnswer.{FragAnswer}
 use Rattle.frag_table.specs.declared.answer.FragAnswer.TheVariants.{Noted, Known, Held, Released, Full}
-use Rattle.frag_table.specs.State.{FragState}
-use Rattle.frag_table.specs.Frag.{frag, FragStep, freed_by, frag_now, live_at}
-use Rattle.nat_model.specs.declared.answer.Answer.{Answer}
-use Rattle.nat_model.specs.declared.answer.Answer.TheVariants.{Out, Turn}
+use Rattle.frag_table.specs.Frag.{frag}
 use Rattle.nat_model.specs.declared.ask.End4.{End4}
-use Rattle.nat_model.specs.declared.ask.Far.{Far}
 use Rattle.nat_model.specs.declared.ask.Ask.{Ask}
 use Rattle.nat_model.specs.declared.ask.Ask.TheVariants.{Outward, Inward, Keep}
 use Rattle.nat_model.specs.declared.binding.Binding.{Binding}
@@ -28,9 +22,9 @@ use Rattle.nat_model.specs.declared.remote.Remote.{Remote}
 use Rattle.nat_model.specs.Binding.{refreshed, kept_until, is_of_host, is_of_port}
 use Rattle.nat_model.specs.Claim.{Bound, bound}
 use Rattle.nat_model.specs.Fragment.{ports_of, part_of, frag_ask_of}
-use Rattle.nat_model.specs.Remote.{remote, sent, is_own, reached}
+use Rattle.nat_model.specs.Remote.{remote}
 use Rattle.nat_model.specs.State.{Generation, NatState, NatStep, Moment, holder_at}
-use Rattle.nat_model.specs.Machine.{refuses, sent_from, sent_by, sent_flow, sent_error_by, sent_error, received_by, received, kept_by, keeps, received_from, passed, told, after_frag, gathered, arrives, held_by, at_time, staying, renewed, timed, with_bindings, with_entry, nat}
+use Rattle.nat_model.specs.Machine.{refuses, sent_by, sent_flow, sent_error_by, sent_error, received_by, received, kept_by, keeps, received_from, passed, told, gathered, arrives, held_by, at_time, staying, renewed, timed, with_entry, nat}
 use Rattle.std.proofs.lemmas.Bool.{ltb-true, ltb-false}
 
 -- after the first of the seven steps the rules stay

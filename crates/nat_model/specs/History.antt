@@ -8,7 +8,7 @@ use Rattle.nat_model.specs.contracts.answer.Answer as answer_row
 use Rattle.nat_model.specs.declared.answer.Answer.{Answer}
 use Rattle.nat_model.specs.declared.binding.Binding.{Binding}
 use Rattle.nat_model.specs.declared.entry.Entry.{Entry}
-use Rattle.nat_model.specs.State.{Generation, NatState, Moment, NatStep}
+use Rattle.nat_model.specs.State.{Generation, NatState, NatStep}
 use Rattle.nat_model.specs.Machine.{nat}
 
 -- where an edge begins: its prefix, the rules of its first generation, and the bindings that it keeps from the start

@@ -1,5 +1,5 @@
 -- Words of the laws: what an answer refuses, the state in which a step looks for a binding, and what stays.
-use Rattle.std.specs.Prelude.{◌≡◌, ℕ, ◌<◌, not, Bool, IsTrue, List, Option, Some, None}
+use Rattle.std.specs.Prelude.{ℕ, ◌<◌, not, IsTrue, List, Option, Some, None}
 use Rattle.std.specs.List.{Any, filter}
 use Rattle.octets.specs.declared.cause.Cause.{Cause}
 use Rattle.octets.specs.declared.prefix.Prefix6.{Prefix6}

@@ -2,7 +2,7 @@
 use Rattle.std.specs.Prelude.{ℕ, suc, List, [], ◌∷◌}
 use Rattle.octets.specs.declared.prefix.Prefix6.{Prefix6}
 use Rattle.nat_model.specs.declared.ask.Ask.{Ask}
-use Rattle.nat_model.specs.State.{Generation, NatState, NatStep, Moment}
+use Rattle.nat_model.specs.State.{Generation, NatState, NatStep}
 use Rattle.nat_model.specs.Machine.{nat}
 
 -- what a machine is asked, at a time, by someone who sees these rules
