@@ -64,7 +64,7 @@ dmr_again prefix (o ∷ os) h len same most bits =
     ap (λ (x : ℕ). x ∷ prefix_octets prefix) same ∙ ap (λ (xs : List ℕ). o ∷ xs) rest
 
 -- a number of whole parts is this many of them
-parts_again : (n p : ℕ) → n % p ≡ 0 → n / p * p ≡ n
+pub parts_again : (n p : ℕ) → n % p ≡ 0 → n / p * p ≡ n
 parts_again n p h = let e = div-add-mod' n p in omega (arith, e, h)
 
 -- the fields of a rule

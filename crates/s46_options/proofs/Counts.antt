@@ -24,16 +24,16 @@ same_count {A} test code option fits one (x ∷ xs) h =
     ∙ ap (λ (n : ℕ). cond (has_code code (option x)) 1 0 + n) same
     ∙ sym (sum_by-cons (λ (y : DhcpOption). cond (has_code code y) 1 0) (option x) (map option xs))
 
-params_code_is : (s : Sub) → sub_fits s ≡ true → is_params s ≡ has_code 93 (sub_option s)
+pub params_code_is : (s : Sub) → sub_fits s ≡ true → is_params s ≡ has_code 93 (sub_option s)
 params_code_is (sub.Params offset psid_len psid) h = refl
 params_code_is (sub.Other code octets) h = sym (not-true _ h)
 
-rule_code_is : (i : Item) → item_fits i ≡ true → is_rule i ≡ has_code 89 (item_option i)
+pub rule_code_is : (i : Item) → item_fits i ≡ true → is_rule i ≡ has_code 89 (item_option i)
 rule_code_is (item.Rule flag ea prefix4 prefix6 subs) h = refl
 rule_code_is (item.Dmr prefix) h = refl
 rule_code_is (item.Other code octets) h = let both = and_parts _ _ h in sym (not-true _ both.0)
 
-dmr_code_is : (i : Item) → item_fits i ≡ true → is_dmr i ≡ has_code 91 (item_option i)
+pub dmr_code_is : (i : Item) → item_fits i ≡ true → is_dmr i ≡ has_code 91 (item_option i)
 dmr_code_is (item.Rule flag ea prefix4 prefix6 subs) h = refl
 dmr_code_is (item.Dmr prefix) h = refl
 dmr_code_is (item.Other code octets) h = let both = and_parts _ _ h in sym (not-true _ both.1)
@@ -47,10 +47,10 @@ rule_count = same_count is_rule 89 item_option item_fits rule_code_is
 pub dmr_count : (items : List Item) → list_all item_fits items ≡ true → count_by is_dmr items ≡ count_by (has_code 91) (map item_option items)
 dmr_count = same_count is_dmr 91 item_option item_fits dmr_code_is
 
-cond_true : (b : Bool) → b ≡ true → cond {A = ℕ} b 1 0 ≡ 1
+pub cond_true : (b : Bool) → b ≡ true → cond {A = ℕ} b 1 0 ≡ 1
 cond_true b e = rw e refl
 
-cond_false : (b : Bool) → b ≡ false → cond {A = ℕ} b 1 0 ≡ 0
+pub cond_false : (b : Bool) → b ≡ false → cond {A = ℕ} b 1 0 ≡ 0
 cond_false b e = rw e refl
 
 pub once_most : (b : Bool) → cond {A = ℕ} b 1 0 ≤ 1

@@ -5,3 +5,6 @@ pub mod Walks
 pub mod Counts
 pub mod Hexadecimal
 pub mod OneReading
+pub mod Spelled
+pub mod Zeros
+pub mod Written

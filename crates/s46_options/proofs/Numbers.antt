@@ -35,7 +35,7 @@ octets_zeros n i =
       | inr le ↦ rw (get_or_past {X = ℕ} (replicate n 0) i 0 (omega (arith, length-replicate {A = ℕ} n 0))) (omega arith)
     ]
 
-byte_is : (k x : ℕ) → byte_at k x ≡ x / 256 ^ k % 256
+pub byte_is : (k x : ℕ) → byte_at k x ≡ x / 256 ^ k % 256
 byte_is zero x = ap (λ (y : ℕ). y % 256) (sym (div-one x))
 byte_is (suc k) x = refl
 

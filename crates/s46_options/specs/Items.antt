@@ -1,5 +1,6 @@
 -- The options of MAP as pictures of octets (RFC 7598, sections 4.1, 4.3, 4.5 and 5.2).
-use Rattle.std.specs.Prelude.{ℕ, ◌+◌, ◌-◌, ◌*◌, ◌/◌, ◌^◌, Bool, List, [], ◌∷◌, ◌++◌, take, map}
+use Rattle.std.specs.Prelude.{ℕ, ◌+◌, ◌-◌, ◌*◌, ◌/◌, ◌^◌, ◌&&◌, nat_lt, Bool, true, List, [], ◌∷◌, ◌++◌, take, map}
+use Rattle.std.specs.List.{list_all}
 use Rattle.octets.specs.Bits.{bit_of}
 use Rattle.octets.specs.Field.{in_word, in_quad, in_sixteen}
 use Rattle.octets.specs.declared.prefix.Prefix4.{Prefix4}
@@ -66,3 +67,14 @@ inside_octets items = spelled_all (map item_option items)
 -- the container: one option
 abbrev pub container_octets : List Item → List ℕ
 container_octets items = spelled (record { code = mapt_code; octets = inside_octets items })
+
+-- the numbers of it that fill a field are no wider than the field: a code has 16 bits, and the bits of a
+-- prefix are 32 or 128
+abbrev pub sub_in_fields : Sub → Bool
+sub_in_fields (sub.Params offset psid_len psid) = true
+sub_in_fields (sub.Other code octets) = nat_lt code (2 ^ 16)
+
+abbrev pub item_in_fields : Item → Bool
+item_in_fields (item.Rule flag ea prefix4 prefix6 subs) = nat_lt prefix4.bits (2 ^ 32) && (nat_lt prefix6.bits (2 ^ 128) && list_all sub_in_fields subs)
+item_in_fields (item.Dmr prefix) = nat_lt prefix.bits (2 ^ 128)
+item_in_fields (item.Other code octets) = nat_lt code (2 ^ 16)

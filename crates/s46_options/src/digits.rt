@@ -56,7 +56,7 @@ fn fault_of(digits: &[u8], fault: FromHexError) -> HexFault
 
 /// The octets that a text spells: hexadecimal digits of either case, and at most one newline at the end.
 /// Refused with the number of octets where it is odd, a newline at the end not counted, and else with the
-/// place of the first octet that is no digit. At most 64 MiB.
+/// place of the first octet that is no digit. The text is shorter than 2^32 octets, so that a place has 32 bits.
 #[tactic(auto, using(crate::proofs::Hexadecimal::half_as_long), unfolding(crate::specs::Digits::hex_of))]
 pub fn read_hex(alloc: Global, text: &[u8]) -> Result<Bytes, HexFault>
     requires { length text.now < 2 ^ 32 }

@@ -1,6 +1,6 @@
 //! The prefixes in the options: their bits, and what may not be set past them.
 
-ghost use Rattle.std.specs.Prelude.{◌≡◌, ◌+◌, ◌≤◌, ◌++◌, [], length, IfOk, IfErr, OnOk, Some};
+ghost use Rattle.std.specs.Prelude.{◌≡◌, ◌+◌, ◌≤◌, ◌<◌, ◌^◌, ◌++◌, [], length, IfOk, IfErr, OnOk, Some};
 ghost use Rattle.octets.specs.Field.{quad};
 ghost use Rattle.s46_options.specs.Items.{octets_for, prefix_octets};
 ghost use Rattle.s46_options.specs.Faults.{over, padding, prefix_number, first};
@@ -77,9 +77,11 @@ pub fn read_prefix6(at: u32, len: u8, octets: &[u8]) -> Result<Prefix6, OptionFa
 
 /// Adds the bits of a prefix in the least number of whole octets.
 pub fn push_prefix6(out: &mut Bytes, prefix: &Prefix6) -> Result<(), NoMemory>
-    ensures { OnOk result (out.new ≡ out.old ++ prefix_octets prefix.now) }
+    ensures octets { OnOk result (out.new ≡ out.old ++ prefix_octets prefix.now) }
+    ensures bits { prefix.now.bits < 2 ^ 128 }
 {
     let mut whole = [0; 16];
-    BigEndian::write_u128(&mut whole, prefix.bits);
+    let bits = prefix.bits;
+    BigEndian::write_u128(&mut whole, bits);
     out.extend(&whole[..octets_for(prefix.len)])
 }

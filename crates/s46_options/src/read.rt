@@ -147,7 +147,6 @@ fn read_items(alloc: Global, parts: &Cut<'_>) -> Result<Vec<Item>, OptionFault>
 /// What stands inside of the container, which is all of the text.
 #[tactic(auto, unfolding(crate::specs::Faults::faults))]
 fn inside(octets: &[u8]) -> Result<&[u8], OptionFault>
-    requires { length octets.now < 2 ^ 32 }
     ensures inside { IfOk result (λ inside. inside.now ≡ drop 4 octets.now) }
     ensures code { OnOk result (word octets.now 0 ≡ 95) }
     ensures length { OnOk result (length octets.now ≡ 4 + word octets.now 2) }
@@ -173,10 +172,10 @@ fn inside(octets: &[u8]) -> Result<&[u8], OptionFault>
 
 /// Reads a container, one option S46_CONT_MAPT and nothing else (RFC 7598, section 5.2). It is refused with
 /// the first fault from the left: what is wrong with the container's own code and length, and then the fault
-/// with the least place of all that the options show; `NoRule` and `NoDmr` come last. At most 64 MiB.
+/// with the least place of all that the options show; `NoRule` and `NoDmr` come last.
+/// A text of any length is read: one that is longer than a container may be is `NotMapt` or `BadLength(2)`.
 #[tactic(auto, unfolding(crate::specs::Faults::inside_faults))]
 pub fn read_container(alloc: Global, octets: &[u8]) -> Result<Container, OptionFault>
-    requires { length octets.now < 2 ^ 32 }
     ensures read { IfOk result (ReadsContainer octets.now) }
     ensures back { IfOk result (λ container. octets.now ≡ container_octets container) }
     ensures sound { OnOk result (fault_of octets.now ≡ None) }

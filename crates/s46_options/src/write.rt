@@ -1,11 +1,13 @@
 //! Writing a container.
 
-ghost use Rattle.std.specs.Prelude.{◌≡◌, ◌<◌, ◌^◌, ◌≤◌, ◌++◌, true, List, length, map, IfOk, OnOk};
-ghost use Rattle.s46_options.specs.Items.{item_option, sub_option, params_octets, rule_octets, dmr_octets, inside_octets, container_octets};
+ghost use Rattle.std.specs.Prelude.{◌≡◌, ◌<◌, ◌^◌, ◌≤◌, ◌++◌, true, List, length, map, IfOk, OnOk, None};
+ghost use Rattle.s46_options.specs.Items.{item_option, sub_option, params_octets, rule_octets, dmr_octets, inside_octets, container_octets, sub_in_fields, item_in_fields};
 ghost use Rattle.s46_options.specs.Options.{spelled, spelled_all};
 ghost use Rattle.std.specs.List.{list_all};
 ghost use Rattle.octets.specs.Field.{in_quad};
 ghost use Rattle.s46_options.specs.Accepted.{sub_fits, item_fits};
+ghost use Rattle.s46_options.specs.Faults.{fault_of};
+ghost use Rattle.s46_options.specs.Reading.{ReadsContainer};
 
 use crate::codes::{DMR, MAPT, PARAMS, RULE};
 use crate::options::push_option;
@@ -31,7 +33,8 @@ fn params_octets(offset: u8, psid_len: u8, psid: u16) -> [u8; 4]
 fn push_sub(out: &mut Bytes, sub: &Sub) -> Result<(), NoMemory>
     requires fits { sub_fits sub.now ≡ true }
     requires short { length (sub_option sub.now).octets < 2 ^ 16 }
-    ensures { OnOk result (out.new ≡ out.old ++ spelled (sub_option sub.now)) }
+    ensures octets { OnOk result (out.new ≡ out.old ++ spelled (sub_option sub.now)) }
+    ensures fields { OnOk result (sub_in_fields sub.now ≡ true) }
 {
     match sub {
         Sub::Params {
@@ -47,7 +50,8 @@ fn push_sub(out: &mut Bytes, sub: &Sub) -> Result<(), NoMemory>
 fn push_subs(out: &mut Bytes, subs: &[Sub]) -> Result<(), NoMemory>
     requires fits { list_all sub_fits subs.now ≡ true }
     requires short { length (spelled_all (map sub_option subs.now)) < 2 ^ 16 }
-    ensures { OnOk result (out.new ≡ out.old ++ spelled_all (map sub_option subs.now)) }
+    ensures octets { OnOk result (out.new ≡ out.old ++ spelled_all (map sub_option subs.now)) }
+    ensures fields { OnOk result (list_all sub_in_fields subs.now ≡ true) }
 {
     for sub in subs {
         push_sub(out, sub)?;
@@ -66,7 +70,8 @@ fn push_quad(out: &mut Bytes, number: u32) -> Result<(), NoMemory>
 
 /// The octets of a default mapping rule.
 fn dmr_octets(alloc: Global, prefix: &Prefix6) -> Result<Bytes, NoMemory>
-    ensures { IfOk result (λ octets. octets ≡ dmr_octets prefix.now) }
+    ensures octets { IfOk result (λ octets. octets ≡ dmr_octets prefix.now) }
+    ensures bits { OnOk result (prefix.now.bits < 2 ^ 128) }
 {
     let mut octets = Bytes::new(alloc);
     octets.push(prefix.len)?;
@@ -90,7 +95,8 @@ impl Item {
     fn octets(&self, alloc: Global) -> Result<Bytes, NoMemory>
         requires fits { item_fits self.now ≡ true }
         requires short { length (item_option self.now).octets < 2 ^ 16 }
-        ensures { IfOk result (λ octets. octets ≡ (item_option self.now).octets) }
+        ensures octets { IfOk result (λ octets. octets ≡ (item_option self.now).octets) }
+        ensures fields { OnOk result (item_in_fields self.now ≡ true) }
     {
         match self {
             Item::Rule {
@@ -111,7 +117,10 @@ impl Item {
                 Ok(octets)
             }
             Item::Dmr(prefix) => dmr_octets(alloc, prefix),
-            Item::Other(_, octets) => octets.copy(alloc),
+            Item::Other(code, octets) => {
+                let _code = *code;
+                octets.copy(alloc)
+            }
         }
     }
 }
@@ -120,7 +129,8 @@ impl Item {
 fn inside(alloc: Global, items: &[Item]) -> Result<Bytes, NoMemory>
     requires fits { list_all item_fits items.now ≡ true }
     requires short { length (inside_octets items.now) < 2 ^ 16 }
-    ensures { IfOk result (λ inside. inside ≡ inside_octets items.now) }
+    ensures octets { IfOk result (λ inside. inside ≡ inside_octets items.now) }
+    ensures fields { OnOk result (list_all item_in_fields items.now ≡ true) }
 {
     let mut inside = Bytes::new(alloc);
     for item in items {
@@ -130,9 +140,11 @@ fn inside(alloc: Global, items: &[Item]) -> Result<Bytes, NoMemory>
     Ok(inside)
 }
 
-/// Writes a container (RFC 7598, section 5.2). What is written is read again as the same items.
+/// Writes a container (RFC 7598, section 5.2). What is written shows no fault, and is read again as the same items.
 pub fn write_container(alloc: Global, container: &Container) -> Result<Bytes, NoMemory>
-    ensures { IfOk result (λ octets. octets ≡ container_octets container.now) }
+    ensures octets { IfOk result (λ octets. octets ≡ container_octets container.now) }
+    ensures sound { IfOk result (λ octets. fault_of octets ≡ None) }
+    ensures read { IfOk result (λ octets. ReadsContainer octets container.now) }
 {
     let inside = inside(alloc, container.as_slice())?;
     let mut out = Bytes::new(alloc);

@@ -9,4 +9,4 @@ octets-requires-clause-short c = option_short item_option c.args.items.now c.loo
 pub push_option-requires : goal.push_option-requires
 push_option-requires c =
     let short = option_short item_option c.args.items.now c.loop-item.item-index c.item-item.result c.loop-item-test.true c.item-item.is c.requires.short in
-    rw (c.as_slice.ensures, c.in_ok-octets.ensures) short
+    rw (c.as_slice.ensures, c.in_ok-octets.ensures.octets) short
