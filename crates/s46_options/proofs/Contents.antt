@@ -1,6 +1,6 @@
 -- The octets of options that are read are those of what is read.
 use Rattle.std.proofs.Common.{◌≡◌, ℕ, zero, suc, ◌+◌, ◌-◌, ◌*◌, ◌/◌, ◌%◌, ◌^◌, ◌<◌, ◌≤◌, Bool, true, false, List, [], ◌∷◌, ◌++◌, length, get_or, take, drop, map, replicate, refl, sym, ap, ◌∙◌, arith, append_assoc, inl, inr, ltb, Some, None, leb, ◌&&◌}
-use Rattle.std.proofs.lemmas.List.{length-append, length-replicate, length-drop, take-append-drop, length-take-le, append-nil, nil_from_length, drop-drop, drop-replicate}
+use Rattle.std.proofs.lemmas.List.{length-append, length-replicate, take-append-drop, length-take-le, append-nil, nil_from_length, drop-drop, drop-replicate}
 use Rattle.std.proofs.lemmas.Bool.{cases_Bool}
 use Rattle.std.specs.List.{sum_by}
 use Rattle.std.proofs.lemmas.List.Concat.{length-flat_map}
@@ -17,7 +17,7 @@ use Rattle.octets.specs.Field.{octet, word, quad, part, in_word, in_quad, in_six
 use Rattle.octets.specs.declared.prefix.Prefix4.{Prefix4}
 use Rattle.octets.specs.declared.prefix.Prefix6.{Prefix6}
 use Rattle.s46_options.specs.declared.subs.Sub.{Sub}
-use Rattle.s46_options.specs.Options.{DhcpOption, spelled, spelled_all, Cut, starts_whole, first_option, behind, cut_most, cut}
+use Rattle.s46_options.specs.Options.{DhcpOption, spelled, spelled_all, Cut, starts_whole, first_option, cut_most, cut}
 use Rattle.s46_options.specs.Items.{octets_for, prefix_octets, params_octets, sub_option, rule_octets, dmr_octets}
 use Rattle.s46_options.specs.declared.fault.OptionFault.{OptionFault}
 use Rattle.s46_options.specs.declared.fault.OptionFault.TheVariants.{Padding, BadLength}

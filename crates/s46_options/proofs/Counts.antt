@@ -1,7 +1,7 @@
 -- Counting items by their codes.
-use Rattle.std.proofs.Common.{◌≡◌, ℕ, ◌+◌, ◌≤◌, Bool, true, false, cond, not, ◌&&◌, eqb, leb, ◌<◌, length, ◌++◌, List, [], ◌∷◌, map, refl, sym, ap, ◌∙◌, arith, inl, inr, Some}
+use Rattle.std.proofs.Common.{◌≡◌, ℕ, ◌+◌, ◌≤◌, Bool, true, false, cond, eqb, leb, ◌<◌, length, ◌++◌, List, [], ◌∷◌, map, refl, sym, ap, ◌∙◌, arith, inl, inr, Some}
 use Rattle.std.specs.List.{count_by, list_all, list_any}
-use Rattle.std.proofs.lemmas.Bool.{and_parts, not-true, cases_Bool, cases_lt, and_from, le-leb, lt-leb, leb-false, eq-eqb, eqb-true}
+use Rattle.std.proofs.lemmas.Bool.{and_parts, not-true, cases_Bool, cases_lt, le-leb, lt-leb, leb-false, eq-eqb, eqb-true}
 use Rattle.std.proofs.lemmas.List.Sums.{sum_by-cons}
 use Rattle.s46_options.specs.declared.subs.Sub.{Sub}
 use Rattle.s46_options.specs.declared.subs.Sub.TheVariants as sub

@@ -1,9 +1,8 @@
 -- Octets are read in one way.
-use Rattle.std.proofs.Common.{◌≡◌, ℕ, ◌-◌, ◌/◌, ◌^◌, Bool, true, false, List, [], ◌∷◌, drop, refl, sym, ap, ◌∙◌, arith}
+use Rattle.std.proofs.Common.{◌≡◌, ℕ, Bool, true, false, List, [], ◌∷◌, drop, refl, sym, ap, ◌∙◌, arith}
 use Rattle.std.proofs.lemmas.Bool.{eq-eqb}
 use Rattle.std.specs.List.{AllZip}
 use Rattle.octets.specs.Bits.{bit_of}
-use Rattle.octets.specs.Field.{octet, word}
 use Rattle.octets.specs.declared.prefix.Prefix4.{Prefix4}
 use Rattle.octets.specs.declared.prefix.Prefix6.{Prefix6}
 use Rattle.octets.proofs.Same.{same_prefix4, same_prefix6}

@@ -1,12 +1,12 @@
 -- Options that were spelled one after another are cut into the same options.
-use Rattle.std.proofs.Common.{◌≡◌, ℕ, ◌+◌, ◌<◌, ◌≤◌, Bool, true, List, [], ◌∷◌, ◌++◌, length, take, drop, map, refl, sym, ap, ◌∙◌, arith, length-append}
+use Rattle.std.proofs.Common.{◌≡◌, ℕ, ◌+◌, ◌<◌, Bool, true, List, [], ◌∷◌, ◌++◌, length, drop, map, refl, sym, ap, ◌∙◌, arith, length-append}
 use Rattle.std.specs.List.{list_all}
 use Rattle.std.proofs.lemmas.Bool.{and_parts, and_from, le-leb}
 use Rattle.std.proofs.lemmas.List.{drop-drop}
 use Rattle.std.proofs.Math.Seq.{take-append_seam, drop-append_seam}
 use Rattle.byteorder.specs.Numbers.{big_number-reads_back}
 use Rattle.octets.specs.Field.{word, in_word, part}
-use Rattle.s46_options.specs.Options.{DhcpOption, spelled, spelled_all, Cut, starts_whole, first_option, behind, cut}
+use Rattle.s46_options.specs.Options.{DhcpOption, spelled, spelled_all, starts_whole, first_option, behind, cut}
 use Rattle.s46_options.proofs.Cuts.{cut_stops, cut_first}
 use Rattle.s46_options.proofs.Walks.{spelled_len}
 

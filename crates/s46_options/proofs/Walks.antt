@@ -1,16 +1,15 @@
 -- Going over options one after the other: what is seen before an option, and what it adds.
-use Rattle.std.proofs.Common.{◌≡◌, ℕ, zero, suc, ◌+◌, ◌≤◌, ◌<◌, Bool, true, false, cond, ◌||◌, List, [], ◌∷◌, ◌++◌, length, get_or, take, drop, map, Option, Some, None, refl, sym, ap, ◌∙◌, arith, add-one, drop-cons, append_assoc, length-append}
+use Rattle.std.proofs.Common.{◌≡◌, ℕ, ◌+◌, ◌≤◌, ◌<◌, Bool, true, false, cond, ◌||◌, List, [], ◌∷◌, ◌++◌, length, get_or, take, drop, map, refl, sym, ap, ◌∙◌, arith, add-one, drop-cons, length-append}
 use Rattle.std.specs.List.{list_any, count_by, list_all, AllZip}
 use Rattle.std.proofs.lemmas.List.{take_more, take_all, drop_all, map-append, take-append-drop}
 use Rattle.std.proofs.lemmas.List.Folds.{list_any-append, list_all-append}
 use Rattle.std.proofs.lemmas.List.Sums.{sum_by_push}
 use Rattle.std.proofs.lemmas.Grind.{flat_map-append}
-use Rattle.octets.specs.Field.{in_word}
 use Rattle.s46_options.specs.declared.options.RawOption.{RawOption}
 use Rattle.s46_options.specs.declared.fault.OptionFault.{OptionFault}
 use Rattle.s46_options.specs.Options.{DhcpOption, spelled, spelled_all}
 use Rattle.s46_options.specs.Raw.{option_of, options_of}
-use Rattle.s46_options.specs.Faults.{has_code, place_behind, each_faults, first}
+use Rattle.s46_options.specs.Faults.{place_behind, each_faults}
 
 -- what stands past the end of a list
 abbrev pub nil : RawOption

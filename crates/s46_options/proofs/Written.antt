@@ -1,8 +1,8 @@
 -- What is written of items shows no fault and is read as these items.
-use Rattle.std.proofs.Common.{◌≡◌, ℕ, zero, suc, ◌+◌, ◌-◌, ◌*◌, ◌/◌, ◌%◌, ◌^◌, ◌<◌, ◌≤◌, Bool, true, false, cond, ◌&&◌, leb, ltb, eqb, List, [], ◌∷◌, ◌++◌, length, take, drop, map, None, refl, sym, ap, ◌∙◌, subst, arith, length-append, append_assoc}
+use Rattle.std.proofs.Common.{◌≡◌, ℕ, ◌+◌, ◌-◌, ◌*◌, ◌/◌, ◌%◌, ◌^◌, ◌<◌, ◌≤◌, Bool, true, false, cond, leb, ltb, eqb, List, [], ◌∷◌, ◌++◌, length, take, drop, map, None, refl, sym, ap, ◌∙◌, subst, arith, length-append}
 use Rattle.std.specs.List.{list_all, list_any, count_by, AllZip}
-use Rattle.std.proofs.lemmas.Bool.{and_parts, not-true, cases_Bool, le-ltb, lt-leb, leb-true, ltb-true, eq-eqb, eqb-true, ne_eqb}
-use Rattle.std.proofs.lemmas.List.{drop-drop, append-nil}
+use Rattle.std.proofs.lemmas.Bool.{and_parts, not-true, le-ltb, lt-leb, leb-true, ltb-true, eq-eqb, eqb-true, ne_eqb}
+use Rattle.std.proofs.lemmas.List.{drop-drop}
 use Rattle.std.proofs.lemmas.List.Sums.{sum_by-cons, sum_by_push}
 use Rattle.std.proofs.lemmas.Nat.{mod-mul-add}
 use Rattle.std.proofs.Math.Nat.{one-le-pow}
@@ -17,15 +17,15 @@ use Rattle.s46_options.specs.declared.subs.Sub.TheVariants as sub
 use Rattle.s46_options.specs.declared.item.Item.{Item}
 use Rattle.s46_options.specs.declared.item.Item.TheVariants as item
 use Rattle.s46_options.specs.declared.fault.OptionFault.{OptionFault}
-use Rattle.s46_options.specs.declared.fault.OptionFault.TheVariants.{SecondParams, SecondDmr, TooManyRules, BadLength}
-use Rattle.s46_options.specs.Options.{DhcpOption, spelled, spelled_all, Cut, cut}
+use Rattle.s46_options.specs.declared.fault.OptionFault.TheVariants.{SecondParams, SecondDmr, TooManyRules}
+use Rattle.s46_options.specs.Options.{DhcpOption, spelled_all, Cut, cut}
 use Rattle.s46_options.specs.Items.{octets_for, prefix_octets, params_octets, sub_option, rule_octets, dmr_octets, item_option, inside_octets, container_octets, sub_in_fields, item_in_fields}
 use Rattle.s46_options.specs.Accepted.{is_params, sub_fits, is_rule, is_dmr, item_fits, is_accepted}
-use Rattle.s46_options.specs.Faults.{when, first, over, padding, prefix_number, has_code, place_behind, leaves_over, left_over, too_long, each_faults, all_faults, params_faults, sub_faults, sub_faults_beside, field_faults, rule_end, subs_of, body_faults, rule_faults, dmr_faults, item_faults, item_faults_beside, missing, inside_faults, faults, fault_of}
+use Rattle.s46_options.specs.Faults.{when, first, over, padding, prefix_number, has_code, place_behind, leaves_over, left_over, each_faults, all_faults, params_faults, sub_faults, sub_faults_beside, field_faults, rule_end, subs_of, body_faults, rule_faults, dmr_faults, item_faults, item_faults_beside, missing, inside_faults, faults, fault_of}
 use Rattle.s46_options.specs.Reading.{ReadsSub, ReadsItem, ReadsContainer}
 use Rattle.s46_options.proofs.Contents.{psid_fits}
-use Rattle.s46_options.proofs.Counts.{params_count, rule_count, dmr_count, cond_true, cond_false, none_counted, none_missing, any_counted}
-use Rattle.s46_options.proofs.Spelled.{FitsOption, AllFit, cut_spelled, all_fit}
+use Rattle.s46_options.proofs.Counts.{params_count, rule_count, dmr_count, cond_true, none_counted, none_missing, any_counted}
+use Rattle.s46_options.proofs.Spelled.{AllFit, cut_spelled, all_fit}
 use Rattle.s46_options.proofs.Zeros.{div_whole, prefix_length, prefix_back}
 
 -- ---- faults that aren't shown

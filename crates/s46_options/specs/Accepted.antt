@@ -1,5 +1,5 @@
 -- Which lists of items are a container (RFC 7598, and the limits of this project).
-use Rattle.std.specs.Prelude.{ℕ, ◌-◌, ◌^◌, ◌&&◌, ◌==◌, nat_le, nat_lt, not, Bool, true, false, List, length}
+use Rattle.std.specs.Prelude.{◌^◌, ◌&&◌, ◌==◌, nat_le, nat_lt, not, Bool, true, false, List, length}
 use Rattle.std.specs.List.{list_all, count_by}
 use Rattle.s46_options.specs.declared.subs.Sub.{Sub}
 use Rattle.s46_options.specs.declared.subs.Sub.TheVariants as sub

@@ -1,6 +1,6 @@
 -- What is wrong with octets that are no container (RFC 7598): all faults that the octets show, each by the
 -- octets at its place, in order of their places. Places are counted from the first octet of the text.
-use Rattle.std.specs.Prelude.{ℕ, zero, suc, ◌+◌, ◌-◌, ◌*◌, ◌/◌, ◌%◌, ◌^◌, ◌&&◌, ◌==◌, nat_le, nat_lt, not, Bool, List, [], ◌∷◌, ◌++◌, length, take, drop, replicate, if◌then◌else◌, Option, Some, None}
+use Rattle.std.specs.Prelude.{ℕ, zero, suc, ◌+◌, ◌-◌, ◌*◌, ◌/◌, ◌%◌, ◌^◌, ◌&&◌, ◌==◌, nat_le, nat_lt, not, Bool, List, [], ◌∷◌, ◌++◌, length, drop, replicate, if◌then◌else◌, Option, Some, None}
 use Rattle.std.specs.List.{count_by, list_any}
 use Rattle.octets.specs.Field.{octet, word, quad, sixteen, part}
 use Rattle.s46_options.specs.declared.fault.OptionFault.{OptionFault}

@@ -1,5 +1,5 @@
 -- The options of MAP as pictures of octets (RFC 7598, sections 4.1, 4.3, 4.5 and 5.2).
-use Rattle.std.specs.Prelude.{ℕ, ◌+◌, ◌-◌, ◌*◌, ◌/◌, ◌^◌, ◌&&◌, nat_lt, Bool, true, List, [], ◌∷◌, ◌++◌, take, map}
+use Rattle.std.specs.Prelude.{ℕ, ◌+◌, ◌-◌, ◌*◌, ◌/◌, ◌^◌, ◌&&◌, nat_lt, Bool, true, List, ◌∷◌, ◌++◌, take, map}
 use Rattle.std.specs.List.{list_all}
 use Rattle.octets.specs.Bits.{bit_of}
 use Rattle.octets.specs.Field.{in_word, in_quad, in_sixteen}

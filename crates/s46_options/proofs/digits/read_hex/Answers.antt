@@ -1,4 +1,4 @@
-use Rattle.std.proofs.Common.{◌≡◌, ◌∙◌, ap, sym, subst, Err, inl, inr, List, ℕ, Result}
+use Rattle.std.proofs.Common.{◌≡◌, ◌∙◌, ap, subst, Err, inl, inr, List, ℕ}
 use Rattle.hex.specs.declared.error.FromHexError.{FromHexError}
 use Rattle.hex.specs.Hex.{decode_of}
 use Rattle.s46_options.specs.Digits.{digits_in, told_by, hex_of}

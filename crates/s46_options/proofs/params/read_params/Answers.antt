@@ -1,4 +1,4 @@
-use Rattle.std.proofs.Common.{◌≡◌, ◌<◌, ◌/◌, ◌-◌, ◌^◌, arith, ap, List, ℕ, refl, get_or, ◌∙◌}
+use Rattle.std.proofs.Common.{◌<◌, ◌/◌, ◌-◌, ◌^◌, arith, ap, List, ℕ, refl, get_or, ◌∙◌}
 use Rattle.std.proofs.lemmas.Bool.{le-leb, lt-ltb}
 use Rattle.s46_options.specs.Options.{DhcpOption}
 use Rattle.s46_options.proofs.Contents.{params_read, psid_read, params_word}

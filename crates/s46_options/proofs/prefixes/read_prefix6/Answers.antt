@@ -1,4 +1,4 @@
-use Rattle.std.proofs.Common.{sym, subst, ◌≡◌, ℕ, Some, ◌+◌}
+use Rattle.std.proofs.Common.{subst, ◌≡◌, ℕ, Some, ◌+◌}
 use Rattle.s46_options.specs.declared.fault.OptionFault.TheVariants.{Padding}
 use Rattle.s46_options.specs.Faults.{first, padding}
 use Rattle.std.proofs.lemmas.Bool.{false≢true}

@@ -1,7 +1,6 @@
-use Rattle.std.proofs.Common.{arith, ap, sym, ◌∙◌, ◌≡◌, ◌≤◌, ◌+◌, ℕ, List, length, drop}
+use Rattle.std.proofs.Common.{arith, ap, sym, ◌∙◌, ℕ, List, length}
 use Rattle.std.proofs.lemmas.List.{length-drop}
-use Rattle.octets.specs.Field.{word}
-use Rattle.s46_options.specs.Options.{Cut, cut, spelled_all}
+use Rattle.s46_options.specs.Options.{cut, spelled_all}
 use Rattle.s46_options.specs.Raw.{cut_of}
 use Rattle.s46_options.specs.Items.{inside_octets}
 use Rattle.s46_options.specs.Faults.{item_faults}

@@ -1,4 +1,4 @@
-use Rattle.std.proofs.Common.{◌≡◌, arith, ap, List, ℕ, refl}
+use Rattle.std.proofs.Common.{arith, ap, List, ℕ, refl}
 use Rattle.std.proofs.lemmas.List.{take_rest}
 use Rattle.s46_options.specs.Options.{DhcpOption}
 use Rattle.s46_options.proofs.Contents.{dmr_again}

@@ -1,10 +1,10 @@
-use Rattle.std.proofs.Common.{arith, ap, sym, ◌∙◌, ◌≡◌, ◌≤◌, ◌+◌, ◌-◌, ℕ, List, length, drop, take, inl, refl, subst}
+use Rattle.std.proofs.Common.{arith, ap, ◌∙◌, ◌≡◌, ◌+◌, ◌-◌, ℕ, List, drop, inl, refl, subst}
 use Rattle.std.specs.List.{AllZip}
 use Rattle.s46_options.specs.Reading.{ReadsSub}
 use Rattle.std.proofs.lemmas.Result.{err_from_is_err_and}
 use Rattle.std.proofs.lemmas.List.{length-drop}
 use Rattle.octets.specs.Field.{octet, part}
-use Rattle.s46_options.specs.Options.{Cut, DhcpOption, cut, spelled_all}
+use Rattle.s46_options.specs.Options.{Cut, DhcpOption, spelled_all}
 use Rattle.s46_options.specs.Raw.{cut_of}
 use Rattle.s46_options.specs.Items.{octets_for}
 use Rattle.s46_options.specs.Faults.{field_faults, padding, prefix_number, all_faults, sub_faults, subs_of, body_faults, rule_end}

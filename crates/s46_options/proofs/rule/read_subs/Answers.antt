@@ -5,7 +5,7 @@ use Rattle.s46_options.specs.Faults.{sub_faults, sub_faults_beside, has_code}
 use Rattle.s46_options.specs.Reading.{ReadsSub}
 use Rattle.s46_options.specs.Items.{sub_option}
 use Rattle.s46_options.specs.Accepted.{sub_fits}
-use Rattle.s46_options.proofs.Walks.{place_bound, place_next, walk_next, any_next, count_next, once_next, map_next, all_next, zip_next, all_taken, nil}
+use Rattle.s46_options.proofs.Walks.{place_bound, place_next, walk_next, any_next, count_next, once_next, map_next, all_next, zip_next, nil}
 use Rattle.s46_options.proofs.Counts.{params_count, params_alone, once_most}
 use Rattle.s46_options.proofs.rule.read_subs.Goals as goal
 

@@ -1,4 +1,3 @@
-use Rattle.std.proofs.Common.{arith, length, ap}
 use Rattle.s46_options.specs.Items.{item_option}
 use Rattle.s46_options.proofs.Contents.{option_short}
 use Rattle.s46_options.proofs.write.inside.Goals as goal

@@ -1,7 +1,6 @@
-use Rattle.std.proofs.Common.{◌≡◌, ◌∙◌, ◌++◌, List, ℕ, true, None, ap, sym, rules}
-use Rattle.std.specs.List.{list_all}
+use Rattle.std.proofs.Common.{◌≡◌, ◌∙◌, ◌++◌, List, ℕ, true, ap}
 use Rattle.s46_options.specs.Options.{spelled}
-use Rattle.s46_options.specs.Items.{inside_octets, container_octets, item_in_fields}
+use Rattle.s46_options.specs.Items.{inside_octets, container_octets}
 use Rattle.s46_options.specs.Accepted.{is_accepted}
 use Rattle.s46_options.proofs.Written.{written_sound, written_read}
 use Rattle.s46_options.proofs.write.write_container.Goals as goal
