@@ -1,0 +1,2 @@
+mod PutBack
+mod Standing

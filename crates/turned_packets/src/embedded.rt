@@ -3,7 +3,7 @@
 ghost use Rattle.std.specs.Prelude.{◌≡◌, ◌+◌, ◌≤◌, IfOk, length};
 ghost use Rattle.octets.specs.Field.{with_word};
 ghost use Rattle.icmp_messages.specs.Inner.{IsInner4};
-ghost use Rattle.turned_packets.specs.Embedded.{with_quad, turned_header, turned_transport, embedded_sum, turned_embedded};
+ghost use Rattle.turned_packets.specs.Embedded.{with_quad, sum_place, turned_header, turned_transport, embedded_sum, turned_embedded};
 
 use crate::ends::NewEnd;
 use crate::layout::{HEADER_SUM_AT, address_place, port_place, sum_place};
@@ -57,7 +57,12 @@ fn embedded_sum(new: &NewEnd, inner: &Inner4, sum_at: usize) -> u16
     let proto = inner.proto;
     let old_words = end_words(proto, end.address_at(&inner.head), end.port_at(inner.ports));
     let new_words = end_words(proto, new.addr, new.port);
-    changed_sum(proto, word_at(inner.payload.as_slice(), sum_at), old_words, new_words)
+    changed_sum(
+        proto,
+        word_at(inner.payload.as_slice(), sum_at),
+        old_words,
+        new_words,
+    )
 }
 
 /// The transport header behind it.

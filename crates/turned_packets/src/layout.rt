@@ -11,17 +11,22 @@ pub const HEADER_SUM_AT: usize = 10;
 
 /// Its addresses.
 const SOURCE_AT: usize = 12;
+
 const DESTINATION_AT: usize = 16;
 
 /// The ports of TCP and UDP, in octets from the start of the transport header (RFC 9293, section 3.1; RFC 768), and the
 /// identifier of an echo (RFC 792).
 const SOURCE_PORT_AT: usize = 0;
+
 const DESTINATION_PORT_AT: usize = 2;
+
 const IDENTIFIER_AT: usize = 4;
 
 /// Their sums.
 const TCP_SUM_AT: usize = 16;
+
 const UDP_SUM_AT: usize = 6;
+
 const ICMP_SUM_AT: usize = 2;
 
 /// The address of an end, in octets from the start of the IPv4 header.
