@@ -1,2 +1,3 @@
 mod PutBack
 mod Standing
+mod RightSums

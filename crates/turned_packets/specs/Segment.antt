@@ -1,11 +1,12 @@
 -- The transport header of a turned packet: one port is another, and the sum changes with it and with the address.
-use Rattle.std.specs.Prelude.{ℕ, ◌+◌, ◌==◌, if◌then◌else◌, List}
+use Rattle.std.specs.Prelude.{ℕ, ◌+◌, ◌<◌, ◌==◌, if◌then◌else◌, List}
 use Rattle.octets.specs.Field.{in_quad}
 use Rattle.octets.specs.declared.address.Addr4.{Addr4}
 use Rattle.octets.specs.declared.proto.Proto.{Proto}
 use Rattle.octets.specs.declared.proto.Proto.TheVariants.{Tcp, Udp, Icmp}
 use Rattle.inet_sum.specs.Sum.{words, adjusted, as_udp}
 use Rattle.ip4_packet.specs.declared.head.Head4.{Head4}
+use Rattle.l4_headers.specs.declared.ports.Ports.{Ports}
 use Rattle.l4_headers.specs.declared.ports.L4.{L4}
 use Rattle.l4_headers.specs.Transport.{with_l4}
 use Rattle.turned_packets.specs.declared.ends.NewEnd.{NewEnd}
@@ -31,3 +32,9 @@ turned_segment new h proto l4 payload =
     let old_words = end_words proto (address_at new.end h) (port_at new.end l4.ports) in
     let new_words = end_words proto new.addr new.port in
     with_l4 proto payload (with_port new.end new.port l4.ports) (changed_sum proto l4.sum old_words new_words)
+
+-- the ports there then are numbers of 16 bits
+abbrev pub ArePorts : NewEnd → Ports → Type 0
+ArePorts new ports =
+    let there = with_port new.end new.port ports in
+    (there.src < 65536) × (there.dst < 65536)
