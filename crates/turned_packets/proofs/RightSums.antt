@@ -1,5 +1,5 @@
 -- Right sums of turned packets.
-use Rattle.std.proofs.Common.{◌≡◌, ◌≢◌, ℕ, zero, suc, ◌+◌, ◌<◌, ◌≤◌, ◌==◌, Bool, false, cond, not, List, [], ◌∷◌, ◌++◌, length, Option, Some, None, ap, subst, ◌∙◌, refl, arith}
+use Rattle.std.proofs.Common.{◌≡◌, ◌≢◌, ℕ, ◌+◌, ◌<◌, ◌≤◌, ◌==◌, Bool, false, cond, not, List, [], ◌∷◌, ◌++◌, length, Some, ap, subst, ◌∙◌, refl, arith}
 use Rattle.std.proofs.lemmas.Bool.Decides.{nat_tests}
 use Rattle.octets.specs.Field.{word, in_quad}
 use Rattle.octets.specs.Protocol.{proto4}
@@ -22,15 +22,11 @@ use Rattle.turned_packets.specs.declared.ends.End.{End}
 use Rattle.turned_packets.specs.declared.ends.End.TheVariants.{Source, Destination}
 use Rattle.turned_packets.specs.declared.ends.NewEnd.{NewEnd}
 use Rattle.turned_packets.specs.Ends.{address_at, port_at, with_address, with_port}
-use Rattle.turned_packets.specs.Segment.{changed_sum, ArePorts, turned_segment}
+use Rattle.turned_packets.specs.Segment.{changed_sum, PortsFit, turned_segment}
 
 -- no protocol that is carried has the number 0
 numbered : (n : ℕ) (proto : Proto) → proto4 n ≡ Some proto → 0 < n
-numbered zero proto is = absurd (none is)
-  where
-    none : ◌≡◌ {A = Option Proto} None (Some proto) → ⊥
-    none h = cc
-numbered (suc n) proto is = omega arith
+numbered n proto is = grind (arith, nat_tests)
 
 -- the words of the pseudo header change by those of the address
 balanced : (end : End) (addr : Addr4) (h : Head4) (len : ℕ) → len < 65536
@@ -58,7 +54,7 @@ no_zero n some = grind (arith, nat_tests)
 
 -- a sum in a payload that stays right, with words `rest` outside it that become `rest'`
 right_by : (proto : Proto) (new : NewEnd) (payload : List ℕ) (rest rest' old_addr new_addr : ℕ) → proto ≢ Icmp → header_octets proto ≤ length payload
-    → (proto ≡ Udp → word payload 6 ≢ 0) → ArePorts new (l4_of proto payload).ports → 0 < rest' → rest' + old_addr ≡ rest + new_addr
+    → (proto ≡ Udp → word payload 6 ≢ 0) → PortsFit new (l4_of proto payload).ports → 0 < rest' → rest' + old_addr ≡ rest + new_addr
     → folded (rest + words payload) ≡ 65535
     → let l4 = l4_of proto payload in
     folded (rest' + words (with_l4 proto payload (with_port new.end new.port l4.ports) (changed_sum proto l4.sum (old_addr + port_at new.end l4.ports) (new_addr + new.port)))) ≡ 65535
@@ -85,7 +81,7 @@ segment_is Udp new h l4 payload carried = refl
 segment_is Icmp new h l4 payload carried = absurd (carried refl)
 
 pub segment_right : (new : NewEnd) (h : Head4) (proto : Proto) (l4 : L4) (payload : List ℕ) (len later : ℕ) → IsSegment4 h payload proto l4
-    → (proto ≡ Udp → word payload 6 ≢ 0) → ArePorts new l4.ports → len < 65536
+    → (proto ≡ Udp → word payload 6 ≢ 0) → PortsFit new l4.ports → len < 65536
     → IsRightOver (pseudo_header4 h.src h.dst h.proto len) payload later
     → let there = with_address new.end new.addr h in
     IsRightOver (pseudo_header4 there.src there.dst h.proto len) (turned_segment new h proto l4 payload) later
@@ -95,7 +91,7 @@ segment_right new h proto l4 payload len later is summed fits short right =
     let rest' = words (pseudo_header4 there.src there.dst h.proto len) in
     let moved = balanced new.end new.addr h len short in
     let given : folded ((rest + later) + words payload) ≡ 65535 = ap folded (behind rest later (words payload)) ∙ right in
-    let ranged : ArePorts new (l4_of proto payload).ports = subst (λ (l : L4). ArePorts new l.ports) is.header fits in
+    let ranged : PortsFit new (l4_of proto payload).ports = subst (λ (l : L4). PortsFit new l.ports) is.header fits in
     let result = right_by proto new payload (rest + later) (rest' + later) (words (in_quad (address_at new.end h).0)) (words (in_quad new.addr.0)) is.no_icmp
     (header_stands proto payload (not h.mf) is.transport) summed ranged (some_pseudo there.src there.dst h.proto len later short (numbered h.proto proto is.protocol)) (omega arith) given in
     ap folded (behind rest' (words (turned_segment new h proto l4 payload)) later)

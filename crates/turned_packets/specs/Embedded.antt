@@ -35,8 +35,8 @@ sum_place Udp = 6
 sum_place Icmp = 2
 
 -- the header at the front of these octets: the address, and the sum of the header (RFC 1624)
-abbrev pub turned_header : NewEnd → Head4 → List ℕ → List ℕ
-turned_header new h octets =
+abbrev pub embedded_header : NewEnd → Head4 → List ℕ → List ℕ
+embedded_header new h octets =
     let sum = adjusted (word octets 10) (words (in_quad (address_at new.end h).0)) (words (in_quad new.addr.0)) in
     with_quad (address_place new.end) new.addr.0 (with_word 10 sum octets)
 
@@ -48,8 +48,8 @@ embedded_sum new inner =
     changed_sum inner.proto (word inner.payload (sum_place inner.proto)) old_words new_words
 
 -- the transport header behind it: the port, and the sum where both its octets stand in the embedded packet
-abbrev pub turned_transport : NewEnd → Inner4 → List ℕ → List ℕ
-turned_transport new inner octets =
+abbrev pub embedded_transport : NewEnd → Inner4 → List ℕ → List ℕ
+embedded_transport new inner octets =
     let start = inner.head.head_len in
     let ported = with_word (start + port_place inner.proto new.end) new.port octets in
     if nat_le (sum_place inner.proto + 2) (length inner.payload)
@@ -58,4 +58,4 @@ turned_transport new inner octets =
 
 -- the octets that begin with the embedded packet
 abbrev pub turned_embedded : NewEnd → Inner4 → List ℕ → List ℕ
-turned_embedded new inner octets = turned_transport new inner (turned_header new inner.head octets)
+turned_embedded new inner octets = embedded_transport new inner (embedded_header new inner.head octets)

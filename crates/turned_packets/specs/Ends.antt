@@ -8,9 +8,9 @@ use Rattle.turned_packets.specs.declared.ends.End.TheVariants.{Source, Destinati
 use Rattle.turned_packets.specs.declared.ends.NewEnd.{NewEnd}
 
 -- the other end
-abbrev pub other : End → End
-other Source = Destination
-other Destination = Source
+abbrev pub other_end : End → End
+other_end Source = Destination
+other_end Destination = Source
 
 -- the address and the port at an end
 abbrev pub address_at : End → Head4 → Addr4
@@ -31,5 +31,5 @@ with_port Source port ports = record ports { src = port }
 with_port Destination port ports = record ports { dst = port }
 
 -- the same end of a flow in the packet that an error embeds, which went the other way (RFC 5508, section 5)
-abbrev pub embedded : NewEnd → NewEnd
-embedded new = record new { end = other new.end }
+abbrev pub embedded_end : NewEnd → NewEnd
+embedded_end new = record new { end = other_end new.end }

@@ -34,7 +34,7 @@ turned_segment new h proto l4 payload =
     with_l4 proto payload (with_port new.end new.port l4.ports) (changed_sum proto l4.sum old_words new_words)
 
 -- the ports there then are numbers of 16 bits
-abbrev pub ArePorts : NewEnd → Ports → Type 0
-ArePorts new ports =
+abbrev pub PortsFit : NewEnd → Ports → Type 0
+PortsFit new ports =
     let there = with_port new.end new.port ports in
     (there.src < 65536) × (there.dst < 65536)

@@ -14,7 +14,7 @@ use Rattle.packets.specs.declared.packet4.Packet4.{Packet4}
 use Rattle.turned_packets.specs.declared.ends.End.{End}
 use Rattle.turned_packets.specs.declared.ends.End.TheVariants.{Source, Destination}
 use Rattle.turned_packets.specs.declared.ends.NewEnd.{NewEnd}
-use Rattle.turned_packets.specs.Ends.{with_address, embedded}
+use Rattle.turned_packets.specs.Ends.{with_address, embedded_end}
 use Rattle.turned_packets.specs.Segment.{turned_segment}
 use Rattle.turned_packets.specs.Embedded.{turned_embedded}
 
@@ -34,7 +34,7 @@ turned_query new m = record m { rest = new.port * 2 ^ 16 + m.rest % 2 ^ 16 }
 
 -- an error: the packet that it embeds shows the flow the other way
 abbrev pub turned_error : NewEnd → Icmp4 → Inner4 → Icmp4
-turned_error new m inner = record m { body = turned_embedded (embedded new) inner m.body }
+turned_error new m inner = record m { body = turned_embedded (embedded_end new) inner m.body }
 
 -- what the packet carries; sums of ICMP messages are made anew, and a later fragment has no port to replace
 abbrev pub turned_payload : NewEnd → Head4 → List ℕ → Content4 → List ℕ

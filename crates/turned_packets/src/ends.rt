@@ -1,7 +1,7 @@
 //! The two ends of a packet, and what stands there instead once an edge turned the packet.
 
 ghost use Rattle.std.specs.Prelude.{◌≡◌};
-ghost use Rattle.turned_packets.specs.Ends.{other, address_at, port_at, with_address, with_port, embedded};
+ghost use Rattle.turned_packets.specs.Ends.{other_end, address_at, port_at, with_address, with_port, embedded_end};
 
 use ip4_packet::Head4;
 use l4_headers::Ports;
@@ -25,7 +25,7 @@ pub struct NewEnd {
 impl End {
     /// The other end.
     fn other(self) -> End
-        ensures { result ≡ other self }
+        ensures { result ≡ other_end self }
     {
         match self {
             End::Source => End::Destination,
@@ -77,7 +77,7 @@ impl End {
 impl NewEnd {
     /// The same end of a flow in the packet that an error embeds, which went the other way.
     pub fn embedded(&self) -> NewEnd
-        ensures { result ≡ embedded self.now }
+        ensures { result ≡ embedded_end self.now }
     {
         NewEnd {
             end: self.end.other(),

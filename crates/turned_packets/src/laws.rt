@@ -15,13 +15,13 @@ ghost use Rattle.packets.specs.declared.packet4.Content4.TheVariants.{Query, Err
 ghost use Rattle.packets.specs.Packet4.{IsSegment4};
 ghost use Rattle.turned_packets.specs.declared.ends.NewEnd.{NewEnd as TheNewEnd};
 ghost use Rattle.turned_packets.specs.Ends.{with_address};
-ghost use Rattle.turned_packets.specs.Segment.{ArePorts, turned_segment};
+ghost use Rattle.turned_packets.specs.Segment.{PortsFit, turned_segment};
 ghost use Rattle.turned_packets.specs.Turned.{turned_payload};
 
 /// A TCP or UDP sum that is right stays right, but for a UDP sum that is missing. It does so in a whole packet and in a
 /// first fragment, whose length is that of all fragments together.
 pub fn a_right_sum_stays_right_when_turned()
-    ensures { (new : TheNewEnd) (h : Header) (proto : AnyProto) (l4 : Transport) (payload : List ℕ) (len later : ℕ) → IsSegment4 h payload proto l4 → (proto ≡ Udp → word payload 6 ≢ 0) → ArePorts new l4.ports → len < 65536 → IsRightOver (pseudo_header4 h.src h.dst h.proto len) payload later → let there = with_address new.end new.addr h in IsRightOver (pseudo_header4 there.src there.dst h.proto len) (turned_segment new h proto l4 payload) later }
+    ensures { (new : TheNewEnd) (h : Header) (proto : AnyProto) (l4 : Transport) (payload : List ℕ) (len later : ℕ) → IsSegment4 h payload proto l4 → (proto ≡ Udp → word payload 6 ≢ 0) → PortsFit new l4.ports → len < 65536 → IsRightOver (pseudo_header4 h.src h.dst h.proto len) payload later → let there = with_address new.end new.addr h in IsRightOver (pseudo_header4 there.src there.dst h.proto len) (turned_segment new h proto l4 payload) later }
 {}
 
 /// The sum of a turned ICMP message is right, whatever is in its body.
