@@ -1,5 +1,5 @@
 //! ICMPv6 packets translated to ICMPv4 (after RFC 7915, sections 5.2 and 5.3).
-ghost use Rattle.std.specs.Prelude.{◌≡◌, ◌≤◌, ◌⊎◌, ℕ, false, length, min, Some, IfOk, IfErr, IsErr, Err};
+ghost use Rattle.std.specs.Prelude.{◌≡◌, ◌≤◌, ◌⊎◌, ◌↔◌, ℕ, false, length, min, Some, IfSome, IsNone, IfOk, IfErr, IsErr, Err};
 ghost use Rattle.octets.specs.declared.cause.Cause.TheVariants.{IcmpKind};
 ghost use Rattle.octets.specs.declared.cause.Fault.TheVariants.{Drop as Dropped, NoMemory as WantsMemory};
 ghost use Rattle.ip6_packet.specs.declared.head.Head6.{Head6 as Header};
@@ -10,7 +10,7 @@ ghost use Rattle.icmp_messages.specs.Inner.{IsInner6};
 ghost use Rattle.icmp_xlat.specs.Table.{row_of, table64};
 ghost use Rattle.icmp_xlat.specs.declared.table.Rest.TheVariants.{Query as QueryRest};
 ghost use Rattle.icmp_xlat.specs.Inner.{Stands6};
-ghost use Rattle.icmp_xlat.specs.Icmp64.{rest64, embedded64, query64, error64, with_message64, LacksPointer64, EmbedsOne64, IsMessage64, IsAnswer64, IsAccepted64};
+ghost use Rattle.icmp_xlat.specs.Icmp64.{rest64, embedded64, query64, error64, with_message64, LacksPointer64, HasNoRow64, EmbedsOne64, IsMessage64, IsAnswer64, IsAccepted64};
 
 use crate::Ends;
 use crate::inner::inner64;
@@ -28,7 +28,7 @@ const UNREACHABLE: u8 = 1;
 const TIME_EXCEEDED: u8 = 3;
 
 /// The embedded packet, without an extension behind it (RFC 4884).
-pub(crate) fn embedded64(message: &Icmp6) -> &[u8]
+pub fn embedded64(message: &Icmp6) -> &[u8]
     ensures { result.now ≡ embedded64 message.now }
 {
     let body = message.body.as_slice();
@@ -140,8 +140,22 @@ fn translated64(
     Ok(error64(alloc, row, rest, &inner, ends)?)
 }
 
-/// The packet of these headers with the translated message.
-fn answer64(
+/// The row by which a message is translated. None exactly where it has no translation: no row for its type and code,
+/// or none for its pointer.
+pub fn translation64(message: &Icmp6) -> Option<Row>
+    ensures found { IfSome result (λ row. row_of table64 message.now.kind message.now.code ≡ Some row) }
+    ensures none { IsNone result ↔ HasNoRow64 message.now }
+{
+    let row = row64(message.kind, message.code)?;
+    if matches!(row.rest, Rest::Pointer) && pointer64(message.rest).is_none() {
+        return None;
+    }
+    Some(row)
+}
+
+/// The packet of these headers with this message, translated to ICMPv4 as `icmp64` translates a packet that isn't read
+/// yet.
+pub fn answer64(
     alloc: Global,
     mtus: Mtus,
     head: &Head6,

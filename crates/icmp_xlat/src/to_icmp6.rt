@@ -1,5 +1,5 @@
 //! ICMPv4 packets translated to ICMPv6 (after RFC 7915, sections 4.2 and 4.3).
-ghost use Rattle.std.specs.Prelude.{◌≡◌, ◌+◌, ◌<◌, ◌≤◌, ◌⊎◌, ℕ, false, length, take, Some, IfOk, IfErr, IsErr, Err};
+ghost use Rattle.std.specs.Prelude.{◌≡◌, ◌+◌, ◌<◌, ◌≤◌, ◌⊎◌, ◌↔◌, ℕ, false, length, take, Some, IfSome, IsNone, IfOk, IfErr, IsErr, Err};
 ghost use Rattle.octets.specs.declared.cause.Cause.TheVariants.{IcmpKind};
 ghost use Rattle.octets.specs.declared.cause.Fault.TheVariants.{Drop as Dropped, NoMemory as WantsMemory};
 ghost use Rattle.ip4_packet.specs.declared.head.Head4.{Head4 as Header};
@@ -10,7 +10,7 @@ ghost use Rattle.icmp_messages.specs.Inner.{IsInner4};
 ghost use Rattle.xlat46.specs.Head.{is_fragment};
 ghost use Rattle.icmp_xlat.specs.declared.table.Rest.TheVariants.{Query as QueryRest};
 ghost use Rattle.icmp_xlat.specs.Inner.{Stands4};
-ghost use Rattle.icmp_xlat.specs.Icmp46.{rest46, embedded46, query46, error46, with_message46, LacksPointer46, EmbedsOne46, IsMessage46, IsAnswer46, IsAccepted46};
+ghost use Rattle.icmp_xlat.specs.Icmp46.{rest46, embedded46, query46, error46, with_message46, LacksPointer46, HasNoRow46, EmbedsOne46, IsMessage46, IsAnswer46, IsAccepted46};
 
 use crate::Ends;
 use crate::inner::inner46;
@@ -30,7 +30,7 @@ const NEXT_HEADER: u32 = 6;
 const MOST_EMBEDDED: usize = 1232;
 
 /// The embedded packet, without an extension behind it (RFC 4884).
-pub(crate) fn embedded46(message: &Icmp4) -> &[u8]
+pub fn embedded46(message: &Icmp4) -> &[u8]
     ensures { result.now ≡ embedded46 message.now }
 {
     let body = message.body.as_slice();
@@ -145,8 +145,22 @@ fn translated46(
     Ok(error46(alloc, row, rest, &inner, ends)?)
 }
 
-/// The packet of this header with the translated message.
-fn answer46(
+/// The row by which a message is translated. None exactly where it has no translation: no row for its type and code,
+/// or none for its pointer.
+pub fn translation46(message: &Icmp4) -> Option<Row>
+    ensures found { IfSome result (λ row. row_of table46 message.now.kind message.now.code ≡ Some row) }
+    ensures none { IsNone result ↔ HasNoRow46 message.now }
+{
+    let row = row46(message.kind, message.code)?;
+    if matches!(row.rest, Rest::Pointer) && pointer46(message.rest >> 24).is_none() {
+        return None;
+    }
+    Some(row)
+}
+
+/// The packet with this header and this message, translated to ICMPv6 as `icmp46` translates a packet that isn't read
+/// yet.
+pub fn answer46(
     alloc: Global,
     mtus: Mtus,
     head: &Head4,

@@ -1,0 +1,3 @@
+pub mod Faults
+pub mod Spared4
+pub mod Spared6

@@ -1,0 +1,5 @@
+pub mod Behind4
+pub mod Behind6
+pub mod Packet4
+pub mod Packet6
+pub mod Asked

@@ -1,0 +1,14 @@
+//! IPv4 and IPv6 packets as a node takes them: one of the causes for which every node drops a packet, or what the packet
+//! carries, read once.
+#![tactic(auto)]
+
+mod asked;
+mod packet4;
+mod packet6;
+
+pub use asked::{Extent, Flow};
+pub use packet4::{Content4, Packet4};
+pub use packet6::{Content6, Packet6};
+
+#[cfg(test)]
+mod tests;
