@@ -1,0 +1,4 @@
+pub mod Named
+pub mod Nat44
+pub mod Packet
+pub mod Pieces
