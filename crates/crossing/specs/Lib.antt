@@ -1,3 +1,4 @@
+pub mod Flow
 pub mod Named
 pub mod Nat44
 pub mod Packet
