@@ -187,7 +187,7 @@ form_of w octets out = record {
   unrouted = refl;
   upper = (flow_number w.parts.head.proto w.parts.proto out.sound.carried.protocol out.sound.carried.no_icmp).upper;
   placed = refl;
-  in_range = record { class = out.class_fits; length_fits = omega (arith, out.total_fits); src = out.src_fits; dst = out.dst_fits };
+  in_range = record { class = out.class_fits; length_fits = omega (arith, out.fits); src = out.src_fits; dst = out.dst_fits };
   frag_in_range = tt;
   written = access_is w octets out;
 }
@@ -241,7 +241,7 @@ core_right w octets out lacking =
     let parts = whole_parts p.head.mf p.head.offset out.whole in
     let number = flow_number p.head.proto p.proto out.sound.carried.protocol out.sound.carried.no_icmp in
     let there = computed p w.src6 w.dst6 (outer_ports w) out.sound.carried parts.1 (out.port_fits, out.far_port_fits) lacking in
-    let len : length p.payload < 65536 = omega (arith, payload_len_is p.head p.payload octets out.sound.is, out.total_fits) in
+    let len : length p.payload < 65536 = omega (arith, payload_len_is p.head p.payload octets out.sound.is, out.fits) in
     let upper = number.udp udp in
     rw upper at (right_over_ipv4 (carried_of w) w.from p.head.dst (outer_ports w) (length p.payload) 0 (carried_is w octets out) refl (out.port_fits, out.far_port_fits) len (rw upper there))
 
@@ -271,7 +271,7 @@ named w octets out =
         octets = refl;
         routed = refl;
         head_len = refl;
-        total = omega (arith, size, out.total_fits, out.sound.is.head_fits);
+        total = omega (arith, size, out.fits, out.sound.is.head_fits);
         ttl = omega (arith, out.lasts);
         id = rw out.whole refl;
         df = rw out.whole refl;

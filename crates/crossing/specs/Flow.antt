@@ -1,5 +1,5 @@
 -- A whole TCP or UDP packet that goes out through an edge, and the packet that the relay makes of it.
-use Rattle.std.specs.Prelude.{◌≡◌, ℕ, ◌%◌, ◌^◌, ◌<◌, ◌≤◌, false, List, Some}
+use Rattle.std.specs.Prelude.{◌≡◌, ℕ, ◌-◌, ◌%◌, ◌^◌, ◌<◌, ◌≤◌, false, List, Some}
 use Rattle.octets.specs.Protocol.{proto6}
 use Rattle.octets.specs.declared.address.Addr4.{Addr4}
 use Rattle.octets.specs.declared.address.Addr6.{Addr6}
@@ -31,13 +31,13 @@ outer_ports w = record { src = w.port; dst = (l4_of w.parts.proto w.parts.payloa
 abbrev pub on_access : Outward → List ℕ
 on_access w = packet46 w.parts w.src6 w.dst6 (Some (outer_ports w))
 
--- the octets are that packet, it is whole and lasts for both nodes, and numbers fit their fields
+-- the octets are that packet, it is whole, lasts for both nodes and fits both versions, and numbers fit their fields
 pub record IsOutward (w : Outward) (octets : List ℕ) : Type 0 where
   pub sound : HasNoCause46 w.parts octets
   pub whole : is_fragment w.parts.head ≡ false
   pub lasts : 3 ≤ w.parts.head.ttl
+  pub fits : w.parts.head.total - w.parts.head.head_len ≤ 65515
   pub class_fits : w.parts.head.tos < 256
-  pub total_fits : w.parts.head.total < 65536
   pub src_fits : w.src6.0 < 2 ^ 128
   pub dst_fits : w.dst6.0 < 2 ^ 128
   pub port_fits : w.port < 65536

@@ -1,8 +1,7 @@
-ghost use Rattle.std.specs.Prelude.{◌≡◌, ◌≤◌, ◌+◌, ◌%◌, ◌^◌, Some, IfOk, length};
-ghost use Rattle.xlat46.specs.Whole.{packet46};
-ghost use Rattle.one_edge.specs.Edge.{edge_in, own6, far6};
-ghost use Rattle.one_edge.specs.Served.{IsServed, parts_of};
-ghost use Rattle.one_edge.specs.Crossed.{ports_outside, IsCrossed};
+ghost use Rattle.std.specs.Prelude.{◌≤◌, IfOk, length};
+ghost use Rattle.one_edge.specs.Edge.{edge_in};
+ghost use Rattle.one_edge.specs.Served.{IsServed};
+ghost use Rattle.one_edge.specs.Crossed.{IsCrossed};
 
 use crate::OneEdge;
 use crate::taken::Taken;
@@ -22,44 +21,8 @@ pub(crate) struct Crossed {
 }
 
 impl OneEdge {
-    /// The packet on the access network.
-    fn access(&self, alloc: Global, octets: &[u8], taken: &Taken) -> Result<Bytes, NoMemory>
-        requires { IsServed (edge_in self.now) taken.now octets.now }
-        ensures { IfOk result (λ made. made ≡ packet46 (parts_of taken.now octets.now) (own6 (edge_in self.now)) (far6 (edge_in self.now) taken.now.head.dst) (Some (ports_outside (edge_in self.now) taken.now.ports))) }
-    {
-        packet46(
-            alloc,
-            &taken.head,
-            taken.proto,
-            taken.head.payload(octets),
-            self.own6(),
-            self.far6(taken.head.dst),
-            Some(self.ports(taken.ports)),
-        )
-    }
-
-    /// The packet of the access network, translated back by the relay.
-    fn core(
-        &self,
-        alloc: Global,
-        access: &[u8],
-        taken: &Taken,
-        number: u16,
-    ) -> Result<Bytes, NoMemory> {
-        let head = head46(&taken.head, self.own6(), self.far6(taken.head.dst));
-        packet64(
-            alloc,
-            &head,
-            taken.proto,
-            head.payload(access),
-            self.own4(),
-            taken.head.dst,
-            Some(self.ports(taken.ports)),
-            number,
-        )
-    }
-
-    /// The packet of the record of this number, as it is on the access network and in the core.
+    /// The packet of the record of this number, as it is on the access network and in the core. In the core it is what the
+    /// relay makes of the packet on the access network.
     pub(crate) fn crossed(
         &self,
         alloc: Global,
@@ -71,12 +34,31 @@ impl OneEdge {
         ensures crossed { IfOk result (λ made. IsCrossed (edge_in self.now) number octets.now made.access made.core) }
         ensures short { IfOk result (λ made. (length made.access ≤ 9000) × (length made.core ≤ 9000)) }
     {
-        let access = self.access(alloc, octets, taken)?;
-        let core = self.core(
+        let own6 = self.own6();
+        let far6 = self.far6(taken.head.dst);
+        let ports = self.ports(taken.ports);
+        let inside = taken.head.payload(octets);
+        let access = packet46(
             alloc,
-            access.as_slice(),
-            taken,
-            (number % IDENTIFICATIONS) as u16,
+            &taken.head,
+            taken.proto,
+            inside,
+            own6,
+            far6,
+            Some(ports),
+        )?;
+        let head = head46(&taken.head, own6, far6);
+        let carried = head.payload(access.as_slice());
+        let id = (number % IDENTIFICATIONS) as u16;
+        let core = packet64(
+            alloc,
+            &head,
+            taken.proto,
+            carried,
+            self.own4(),
+            taken.head.dst,
+            Some(ports),
+            id,
         )?;
         Ok(Crossed { access, core })
     }
