@@ -179,9 +179,10 @@ pub carries_by : (e : Edge) (t : Taken) (octets : List ℕ) (access payload : Li
     → access ≡ packet46 (parts_of t octets) source far (Some ports) → payload ≡ payload_of6 head access → IsCarried6 (record { head = head; proto = t.proto; payload = payload }) × (head.length ≡ length payload)
 carries_by e t octets access payload head source far ports is made out reads =
     let goes = goes_out e t octets 0 is (fits_of e t head source far ports made) in
-    let same = carried_by e t octets 0 access payload head source far ports is made out reads in
-    (subst IsCarried6 (sym same) (carried_is (way_of e t octets 0) octets goes),
-      ap (λ (q : Parts6). q.head.length) same ∙ sym (payload_length (way_of e t octets 0) octets goes) ∙ ap (λ (q : Parts6). length q.payload) (sym same))
+    let same = carried_by e t octets 0 access payload head source far ports is made out reads in (
+      subst IsCarried6 (sym same) (carried_is (way_of e t octets 0) octets goes),
+      ap (λ (q : Parts6). q.head.length) same ∙ sym (payload_length (way_of e t octets 0) octets goes) ∙ ap (λ (q : Parts6). length q.payload) (sym same),
+    )
 
 -- the core's packet is 20 octets shorter than that of the access network
 pub shorter : (e : Edge) (t : Taken) (octets : List ℕ) (payload core : List ℕ) (head : Head6) (from : Addr4) (ports : Ports) (id : ℕ) → IsCarried6 (record { head = head; proto = t.proto; payload = payload }) → fragment_offset head.frag ≡ 0

@@ -1,5 +1,5 @@
-ghost use Rattle.std.specs.Prelude.{◌≡◌, ◌↔◌, IsTrue, All, IfOk, IfSome, IfNone};
-ghost use Rattle.octets.specs.declared.proto.Proto.{Proto as Protocol};
+ghost use Rattle.std.specs.Prelude.{◌≡◌, ◌&&◌, Some, All, IfOk, IfSome, IfNone};
+ghost use Rattle.octets.specs.declared.proto.Proto.TheVariants.{Tcp, Udp};
 ghost use Rattle.pcap_files.specs.Written.{IsWritable};
 ghost use Rattle.one_edge.specs.Edge.{edge_in};
 ghost use Rattle.one_edge.specs.Served.{AreServed, AreReplayed, times_rise, is_of, same_source, first_of, follow, have_one_source};
@@ -78,6 +78,13 @@ fn have_one_source(proto: Proto, packets: &[Taken]) -> bool
     }
 }
 
+/// Whether the packets of TCP come from one address and port, and those of UDP.
+fn have_one_source_each(packets: &[Taken]) -> bool
+    ensures { result ≡ (have_one_source Tcp packets.now && have_one_source Udp packets.now) }
+{
+    have_one_source(Proto::Tcp, packets) && have_one_source(Proto::Udp, packets)
+}
+
 impl OneEdge {
     /// What becomes of the records.
     fn captured(
@@ -112,9 +119,10 @@ impl OneEdge {
         let Some(packets) = self.all_taken(alloc, records)? else {
             return Ok(None);
         };
-        let one_source = have_one_source(Proto::Tcp, &packets)
-            && have_one_source(Proto::Udp, &packets);
-        if !times_rise(records) || !one_source {
+        if !times_rise(records) {
+            return Ok(None);
+        }
+        if !have_one_source_each(&packets) {
             return Ok(None);
         }
         Ok(Some(self.captured(alloc, records, &packets)?))
