@@ -16,17 +16,20 @@ use Rattle.ip6_packet.specs.Grammar.{payload_of as payload_of6}
 use Rattle.ip6_packet.proofs.EmbeddedLemmas.{same_headers6, headers_of6}
 use Rattle.l4_headers.specs.declared.ports.Ports.{Ports}
 use Rattle.l4_headers.specs.Transport.{l4_of}
-use Rattle.port_set.proofs.Ranks.{rank-one}
+use Rattle.port_set.proofs.Ranks.{rank-one, rank-below}
 use Rattle.rule_book.specs.declared.book.Book.{Book}
 use Rattle.rule_book.specs.Holder.{Holder}
 use Rattle.map_rules.specs.declared.dmr.Dmr.{Dmr}
 use Rattle.map_rules.specs.declared.rule.Rule.{Rule}
 use Rattle.xlat46.specs.Whole.{packet46}
 use Rattle.xlat64.specs.Whole.{Parts6, packet64}
+use Rattle.pcap_files.specs.Written.{written}
+use Rattle.port_set.specs.PortSet.{claimable_count, rank_of}
+use Rattle.one_edge.specs.declared.captures.Captures.{Captures}
 use Rattle.one_edge.specs.declared.taken.Taken.{Taken}
-use Rattle.one_edge.specs.Edge.{Edge, IsEdge, IsLeast, own4, own6, far6}
+use Rattle.one_edge.specs.Edge.{Edge, IsEdge, IsLeast, HoldsNothing, LacksEdge, own4, own6, far6}
 use Rattle.one_edge.specs.Served.{IsServed, AreServed, parts_of}
-use Rattle.one_edge.specs.Crossed.{IsCrossed, AreCrossed, ports_outside}
+use Rattle.one_edge.specs.Crossed.{IsCrossed, AreCrossed, AreCaptured, ports_outside}
 
 same_bit : (a b : Bool) → bit_of a ≡ bit_of b → a ≡ b
 same_bit true true e = refl
@@ -126,8 +129,25 @@ same_edge book prefix mtus e f is other =
     let dmr : e.dmr ≡ f.dmr = is.by_default ∙ sym other.by_default in
     let holder : e.holder ≡ f.holder = same_holder e.holder f.holder (sym is.holds ∙ other.holds) in
     let claims : IsLeast f.holder e.least = subst (λ (h : Holder). IsLeast h e.least) holder is.claims in
-    let least : e.least ≡ f.least = rank-one f.holder.offset f.holder.psid_length f.holder.psid e.least f.least 0 claims other.claims in
+    let least : e.least ≡ f.least = rank-one f.holder.offset f.holder.psid_length f.holder.psid e.least f.least 0 claims.1 other.claims.1 in
     let mtus_same : e.mtus ≡ f.mtus = is.between ∙ sym other.between in
     let made : Edge = record { rules = e.rules; dmr = e.dmr; holder = e.holder; least = e.least; mtus = e.mtus } in
     let first : e ≡ made = refl in
     first ∙ rw (rules, dmr, holder, least, mtus_same) refl
+
+-- records give one pair of captures
+pub same_made : (e : Edge) (records : List Record) (one other : Captures) → AreCaptured e records one → AreCaptured e records other → one ≡ other
+same_made e records one other is same =
+    let all = same_all e 0 records is.accesses same.accesses is.cores same.cores is.crossed same.crossed in
+    let access : one.access ≡ other.access = is.access ∙ ap (λ (rs : List Record). written rs) all.access_same ∙ sym same.access in
+    let core : one.core ≡ other.core = is.core ∙ ap (λ (rs : List Record). written rs) all.core_same ∙ sym same.core in
+    let made : Captures = record { access = one.access; core = one.core } in
+    let first : one ≡ made = refl in
+    first ∙ rw (access, core) refl
+
+-- a prefix is an edge, or lacks one
+pub edge_or_none : (book : Book) (prefix : Prefix6) (mtus : Mtus) (e : Edge) → IsEdge book prefix mtus e → LacksEdge book prefix → ⊥
+edge_or_none book prefix mtus e is lacks =
+    let none : claimable_count e.holder.offset e.holder.psid_length e.holder.psid ≡ 0 = subst HoldsNothing is.holds lacks in
+    let some = rank-below e.holder.offset e.holder.psid_length e.holder.psid e.least 0 is.claims.0 is.claims.1 in
+    omega (arith, none, some)

@@ -1,5 +1,5 @@
 -- One customer edge, by the rules of its configuration (RFC 7597, section 5.2).
-use Rattle.std.specs.Prelude.{◌≡◌, ◌⊎◌, ℕ, if◌then◌else◌, List, Option, Some, None}
+use Rattle.std.specs.Prelude.{◌≡◌, ℕ, ◌<◌, if◌then◌else◌, List, Option, Some, None}
 use Rattle.octets.specs.declared.address.Addr4.{Addr4}
 use Rattle.octets.specs.declared.address.Addr6.{Addr6}
 use Rattle.octets.specs.declared.mtus.Mtus.{Mtus}
@@ -31,9 +31,9 @@ edge_in one = record {
   mtus = one.mtus;
 }
 
--- no claimable port is less than this one
+-- this is a claimable port, and none is less
 abbrev pub IsLeast : Holder → ℕ → Type 0
-IsLeast h port = rank_of h.offset h.psid_length h.psid port ≡ Some 0
+IsLeast h port = (port < 65536) × (rank_of h.offset h.psid_length h.psid port ≡ Some 0)
 
 -- the edge with this prefix under this book's rules
 pub record IsEdge (book : Book) (prefix : Prefix6) (mtus : Mtus) (e : Edge) : Type 0 where
