@@ -1,22 +1,17 @@
 -- Whole TCP and UDP packets cross with the named header changes.
-use Rattle.std.proofs.Common.{◌≡◌, ◌≢◌, ℕ, ◌+◌, ◌-◌, ◌*◌, ◌%◌, ◌^◌, ◌<◌, ◌≤◌, Bool, true, false, cond, not, ◌&&◌, ◌||◌, eqb, leb, IsTrue, List, length, take, drop, Option, Some, None, inl, inr, refl, sym, ap, ◌∙◌, subst, arith}
-use Rattle.std.specs.Prelude.{min, ◌↔◌}
-use Rattle.std.proofs.lemmas.Bool.{cases_eq, eq-eqb, ne_eqb, eqb-true, false≢true}
-use Rattle.octets.specs.Field.{octet, word, part, in_quad, in_sixteen}
+use Rattle.std.proofs.Common.{◌≡◌, ◌≢◌, ℕ, ◌+◌, ◌-◌, ◌%◌, ◌^◌, ◌<◌, ◌≤◌, Bool, true, false, cond, not, ◌||◌, eqb, List, length, Option, Some, None, inl, inr, refl, sym, ap, ◌∙◌, subst, arith}
+use Rattle.std.proofs.lemmas.Bool.{cases_eq, ne_eqb, false≢true}
+use Rattle.octets.specs.Field.{word, in_quad, in_sixteen}
 use Rattle.octets.specs.Protocol.{proto4, proto6}
-use Rattle.octets.proofs.Words.{word-with_word, length-with_word}
-use Rattle.octets.specs.declared.address.Addr4.{Addr4}
 use Rattle.octets.specs.declared.address.Addr6.{Addr6}
 use Rattle.octets.specs.declared.proto.Proto.{Proto}
 use Rattle.octets.specs.declared.proto.Proto.TheVariants.{Tcp, Udp, Icmp}
-use Rattle.inet_sum.specs.Sum.{words, folded, adjusted, as_udp, check_sum}
+use Rattle.inet_sum.specs.Sum.{words, adjusted, check_sum}
 use Rattle.ip4_packet.specs.declared.head.Head4.{Head4}
-use Rattle.ip4_packet.specs.Grammar.{Is4, payload_of}
+use Rattle.ip4_packet.specs.Grammar.{Is4}
 use Rattle.ip6_packet.specs.declared.head.Head6.{Head6}
-use Rattle.ip6_packet.specs.declared.head.Frag6.{Frag6}
 use Rattle.ip6_packet.specs.Grammar.{Is6}
-use Rattle.ip6_packet.specs.Fragment.{fragment_offset, more_fragments}
-use Rattle.ip6_packet.specs.Written.{written6, IsUpper, IsPlaced, IsInRange, FitsFrag, IsPacket6}
+use Rattle.ip6_packet.specs.Written.{written6, IsUpper, IsPacket6}
 use Rattle.ip6_packet.proofs.EmbeddedLemmas.{same_headers6, headers_of6}
 use Rattle.ip6_packet.proofs.WrittenLemmas.{written_is6}
 use Rattle.l4_headers.specs.declared.ports.Ports.{Ports}
@@ -26,8 +21,8 @@ use Rattle.l4_headers.specs.PseudoHeader.{pseudo_header4, pseudo_header6, IsRigh
 use Rattle.l4_headers.specs.Readdressed.{as_written, port_words, readdressed_sum, computed_udp_sum}
 use Rattle.l4_headers.proofs.Laws.{length-with_l4, bad_with_l4, l4_of-with_tcp, l4_of-with_udp}
 use Rattle.l4_headers.proofs.RightSums.{header_stands}
-use Rattle.xlat46.specs.Head.{is_fragment, upper_protocol, fragment_header, translated as translated46}
-use Rattle.xlat46.specs.Whole.{Parts4, IsCarried4, HasNoCause46, lacks_sum, has_no_sum, sum46, payload46, packet46}
+use Rattle.xlat46.specs.Head.{is_fragment, upper_protocol, translated as translated46}
+use Rattle.xlat46.specs.Whole.{Parts4, lacks_sum, has_no_sum, sum46, payload46}
 use Rattle.xlat46.proofs.RightSums.{computed}
 use Rattle.xlat64.proofs.RightSums.{changed as right_over_ipv4}
 use Rattle.ip6_packet.specs.Grammar.{payload_of as payload_of6}
@@ -35,7 +30,7 @@ use Rattle.std.proofs.lemmas.List.{places}
 use Rattle.xlat64.specs.Head.{protocol_of, translated as translated64}
 use Rattle.xlat64.specs.Whole.{Parts6, IsCarried6, sum64, payload64, packet64}
 use Rattle.crossing.specs.Flow.{Outward, IsOutward, IsOnAccess, outer_ports, on_access, in_core, crossing_of, ComesOf}
-use Rattle.crossing.specs.Named.{Named, IsFlow, uncut}
+use Rattle.crossing.specs.Named.{IsFlow}
 use Rattle.crossing.specs.Nat44.{with_source}
 use Rattle.crossing.proofs.Sums.{written-twice, written_fits, udp_fits, udp_some}
 use Rattle.crossing.proofs.Twice.{with_l4-twice}

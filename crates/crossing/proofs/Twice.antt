@@ -1,9 +1,9 @@
 -- Ports and a sum that are replaced twice: the later ones stand.
-use Rattle.std.proofs.Common.{◌≡◌, ◌≢◌, ℕ, ◌+◌, ◌<◌, ◌≤◌, ◌⊎◌, inl, inr, List, length, ap, ◌∙◌, sym, refl, arith}
+use Rattle.std.proofs.Common.{◌≡◌, ◌≢◌, ℕ, ◌+◌, ◌≤◌, ◌⊎◌, inl, inr, List, length, ap, ◌∙◌, refl, arith}
 use Rattle.std.proofs.lemmas.List.{places}
 use Rattle.std.proofs.lemmas.Grind.{same_number_lists}
-use Rattle.octets.specs.Field.{octet, word, with_word}
-use Rattle.octets.proofs.Words.{length-with_word, octet-with_word}
+use Rattle.octets.specs.Field.{with_word}
+use Rattle.octets.proofs.Words.{length-with_word}
 use Rattle.octets.specs.declared.proto.Proto.{Proto}
 use Rattle.octets.specs.declared.proto.Proto.TheVariants.{Tcp, Udp, Icmp}
 use Rattle.l4_headers.specs.declared.ports.Ports.{Ports}

@@ -5,7 +5,7 @@ use Rattle.std.specs.Option.{option_map}
 use Rattle.octets.specs.Field.{octet, part}
 use Rattle.octets.specs.declared.mtus.Mtus.{Mtus}
 use Rattle.octets.specs.declared.proto.Proto.{Proto}
-use Rattle.octets.specs.declared.proto.Proto.TheVariants.{Tcp, Udp, Icmp}
+use Rattle.octets.specs.declared.proto.Proto.TheVariants.{Icmp}
 use Rattle.ip4_packet.specs.declared.head.Head4.{Head4}
 use Rattle.ip4_packet.specs.Written.{written4}
 use Rattle.l4_headers.specs.declared.ports.Ports.{Ports}

@@ -1,5 +1,5 @@
 -- An IPv4 packet as it was read: its header, and what it carries (RFC 791; RFC 792; RFC 768; RFC 9293).
-use Rattle.std.specs.Prelude.{◌≡◌, ◌≢◌, ℕ, ◌≤◌, false, not, List, Option, Some, None}
+use Rattle.std.specs.Prelude.{◌≡◌, ◌≢◌, ℕ, false, not, List, Option, Some, None}
 use Rattle.octets.specs.Protocol.{proto4}
 use Rattle.octets.specs.declared.proto.Proto.{Proto}
 use Rattle.octets.specs.declared.proto.Proto.TheVariants.{Icmp}

@@ -1,9 +1,8 @@
 -- What octets hold is one packet, and what becomes of a record is one.
-use Rattle.std.proofs.Common.{◌≡◌, ℕ, ◌+◌, ◌%◌, ◌^◌, Bool, true, false, List, [], ◌∷◌, Option, Some, None, refl, sym, ap, ◌∙◌, subst, arith}
+use Rattle.std.proofs.Common.{◌≡◌, ℕ, ◌+◌, ◌%◌, ◌^◌, Bool, true, false, List, [], ◌∷◌, Option, Some, refl, sym, ap, ◌∙◌, subst, arith}
 use Rattle.octets.specs.Bits.{bit_of}
 use Rattle.octets.specs.Protocol.{proto4, proto6}
 use Rattle.octets.specs.declared.address.Addr4.{Addr4}
-use Rattle.octets.specs.declared.address.Addr6.{Addr6}
 use Rattle.octets.specs.declared.mtus.Mtus.{Mtus}
 use Rattle.octets.specs.declared.prefix.Prefix6.{Prefix6}
 use Rattle.octets.specs.declared.proto.Proto.{Proto}
@@ -14,17 +13,14 @@ use Rattle.ip6_packet.specs.declared.head.Head6.{Head6}
 use Rattle.ip6_packet.specs.Embedded.{HasHeaders6}
 use Rattle.ip6_packet.specs.Grammar.{payload_of as payload_of6}
 use Rattle.ip6_packet.proofs.EmbeddedLemmas.{same_headers6, headers_of6}
-use Rattle.l4_headers.specs.declared.ports.Ports.{Ports}
 use Rattle.l4_headers.specs.Transport.{l4_of}
 use Rattle.port_set.proofs.Ranks.{rank-one, rank-below}
 use Rattle.rule_book.specs.declared.book.Book.{Book}
 use Rattle.rule_book.specs.Holder.{Holder}
-use Rattle.map_rules.specs.declared.dmr.Dmr.{Dmr}
-use Rattle.map_rules.specs.declared.rule.Rule.{Rule}
 use Rattle.xlat46.specs.Whole.{packet46}
 use Rattle.xlat64.specs.Whole.{Parts6, packet64}
 use Rattle.pcap_files.specs.Written.{written}
-use Rattle.port_set.specs.PortSet.{claimable_count, rank_of}
+use Rattle.port_set.specs.PortSet.{claimable_count}
 use Rattle.one_edge.specs.declared.captures.Captures.{Captures}
 use Rattle.one_edge.specs.declared.taken.Taken.{Taken}
 use Rattle.one_edge.specs.Edge.{Edge, IsEdge, IsLeast, HoldsNothing, LacksEdge, own4, own6, far6}

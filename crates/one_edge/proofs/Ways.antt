@@ -1,5 +1,5 @@
 -- A served packet goes out and is translated back.
-use Rattle.std.proofs.Common.{◌≡◌, ℕ, ◌+◌, ◌-◌, ◌*◌, ◌%◌, ◌^◌, ◌<◌, ◌≤◌, List, [], length, not, Option, Some, refl, sym, ap, ◌∙◌, subst, arith}
+use Rattle.std.proofs.Common.{◌≡◌, ℕ, ◌+◌, ◌%◌, ◌^◌, ◌<◌, ◌≤◌, List, length, not, Some, refl, sym, ap, ◌∙◌, subst, arith}
 use Rattle.ip6_packet.specs.declared.head.Head6.{Head6}
 use Rattle.ip6_packet.specs.Grammar.{payload_of as payload_of6}
 use Rattle.ip6_packet.specs.Written.{written6}
@@ -13,12 +13,12 @@ use Rattle.ip6_packet.specs.Fragment.{fragment_offset, more_fragments}
 use Rattle.l4_headers.proofs.Laws.{length-with_l4}
 use Rattle.l4_headers.proofs.RightSums.{header_stands}
 use Rattle.xlat64.specs.Whole.{Parts6, IsCarried6, sum64, packet64}
-use Rattle.crossing.specs.Flow.{Outward, IsOutward, IsOnAccess, outer_ports, on_access, in_core, ComesOf, crossing_of}
-use Rattle.crossing.proofs.Flow.{carried_of, carried_is, read_as, payload_length, again_of, named, is_plain6, form_of, flow_number}
+use Rattle.crossing.specs.Flow.{Outward, IsOutward, outer_ports, on_access, in_core, crossing_of}
+use Rattle.crossing.proofs.Flow.{carried_of, carried_is, read_as, payload_length, again_of, named, is_plain6, form_of}
 use Rattle.one_edge.specs.declared.taken.Taken.{Taken}
 use Rattle.one_edge.specs.Edge.{Edge, outside_port, own4, own6, far6}
 use Rattle.one_edge.specs.Served.{IsServed, parts_of}
-use Rattle.one_edge.specs.Crossed.{IsCrossed, IsNamed, ports_outside}
+use Rattle.one_edge.specs.Crossed.{IsCrossed, ports_outside}
 
 -- the packet's way out
 abbrev pub way_of : Edge → Taken → List ℕ → ℕ → Outward

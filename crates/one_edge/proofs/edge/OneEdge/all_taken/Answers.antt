@@ -1,9 +1,8 @@
 use Rattle.std.proofs.Common.{◌≡◌, ℕ, ◌+◌, List, ◌∷◌, [], ◌++◌, take, get_or, sym, ap, ◌∙◌, subst, rules}
 use Rattle.std.proofs.lemmas.List.{take_more}
 use Rattle.pcap_files.specs.declared.records.Record.{Record}
-use Rattle.one_edge.specs.declared.taken.Taken.{Taken}
 use Rattle.one_edge.specs.Edge.{edge_in}
-use Rattle.one_edge.specs.Served.{IsServed, AreServed}
+use Rattle.one_edge.specs.Served.{IsServed}
 use Rattle.one_edge.proofs.Lists.{one_more, served_at, some_packet}
 use Rattle.one_edge.proofs.edge.OneEdge.all_taken.Goals as goal
 

@@ -1,4 +1,4 @@
-use Rattle.std.proofs.Common.{◌≡◌, ◌&&◌, Bool, true, false, List, sym, ap, ◌∙◌, subst}
+use Rattle.std.proofs.Common.{◌≡◌, ◌&&◌, true, List, sym, ap, ◌∙◌}
 use Rattle.std.proofs.lemmas.Bool.{both_ways, and_from, and_parts}
 use Rattle.octets.specs.declared.proto.Proto.TheVariants.{Tcp, Udp}
 use Rattle.one_edge.specs.declared.taken.Taken.{Taken}
