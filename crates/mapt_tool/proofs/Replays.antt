@@ -1,6 +1,5 @@
 -- The only edge of a setup, and how a replay ends where there is none.
-use Rattle.std.proofs.Common.{◌≡◌, ◌≢◌, ℕ, ◌+◌, Bool, true, false, ◌||◌, List, [], ◌∷◌, length, get_or, Option, Some, None, Result, Ok, Err, refl, sym, ap, ◌∙◌, subst, arith}
-use Rattle.std.specs.Prelude.{is_some}
+use Rattle.std.proofs.Common.{◌≡◌, ◌≢◌, ℕ, Bool, true, false, List, [], ◌∷◌, length, get_or, Some, None, Result, Ok, Err, refl, sym, ap, arith}
 use Rattle.outside.specs.Seen.{FolderSeen}
 use Rattle.outside.specs.declared.file_id.FileId.TheVariants.{Config}
 use Rattle.mapt_setup.specs.declared.edge.EdgeLine.{EdgeLine}

@@ -1,5 +1,5 @@
 -- What a replay comes to, for a configuration of one edge.
-use Rattle.std.specs.Prelude.{◌≡◌, ◌⊎◌, ℕ, Bool, true, false, ◌||◌, List, [], ◌∷◌, ◌++◌, codes, Option, Some, None, is_some, Result, Ok, Err}
+use Rattle.std.specs.Prelude.{◌≡◌, ℕ, Bool, false, ◌||◌, List, [], ◌∷◌, ◌++◌, codes, Option, Some, None, is_some, Result, Ok, Err}
 use Rattle.outside.specs.declared.file_id.FileId.TheVariants.{Config, InLan, OutAccess, OutCore}
 use Rattle.pcap_files.specs.declared.records.Record.{Record}
 use Rattle.pcap_files.specs.declared.fault.CaptureFault.{CaptureFault}

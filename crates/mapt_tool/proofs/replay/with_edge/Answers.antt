@@ -1,13 +1,13 @@
-use Rattle.std.proofs.Common.{◌≡◌, ℕ, List, Option, Ok, Err, ap, sym, ◌∙◌, subst, Some}
+use Rattle.std.proofs.Common.{ℕ, List, Option, Err, ap, sym, ◌∙◌, subst, Some}
 use Rattle.outside.specs.Seen.{folder_seen}
 use Rattle.outside.specs.declared.file_id.FileId.TheVariants.{InLan}
 use Rattle.pcap_files.specs.Capture.{capture}
 use Rattle.one_edge.specs.Edge.{edge_in}
-use Rattle.mapt_tool.specs.Ended.{Ended, Given}
+use Rattle.mapt_tool.specs.Ended.{Ended}
 use Rattle.mapt_tool.specs.Limits.{limit_of, record_limit}
 use Rattle.mapt_tool.specs.Reading.{Reads, Answers}
 use Rattle.mapt_tool.specs.Replay.{IsPlannedBy, ReplaysLan}
-use Rattle.mapt_tool.proofs.Steps.{ends_first, ends_then, ends_here}
+use Rattle.mapt_tool.proofs.Steps.{ends_first}
 use Rattle.mapt_tool.proofs.replay.with_edge.Goals as goal
 
 pub returns-in-Err-read_text : goal.returns-in-Err-read_text

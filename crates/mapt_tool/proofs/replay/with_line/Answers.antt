@@ -1,4 +1,4 @@
-use Rattle.std.proofs.Common.{◌≡◌, sym, ap, ◌∙◌, subst, refl, Option, Some}
+use Rattle.std.proofs.Common.{sym, subst, refl, Option}
 use Rattle.outside.specs.Seen.{folder_seen}
 use Rattle.rule_book.specs.declared.book.Book.{Book}
 use Rattle.mapt_setup.specs.declared.edge.EdgeLine.{EdgeLine}

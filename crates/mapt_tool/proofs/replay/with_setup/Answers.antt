@@ -1,8 +1,8 @@
-use Rattle.std.proofs.Common.{◌≡◌, ◌≢◌, ◌||◌, length, get_or, sym, ap, ◌∙◌, subst, Some, None}
+use Rattle.std.proofs.Common.{◌||◌, length, sym, ap, ◌∙◌, subst}
 use Rattle.std.specs.Prelude.{is_some}
 use Rattle.outside.specs.Seen.{folder_seen}
 use Rattle.mapt_tool.specs.Replay.{HasNoEdge}
-use Rattle.mapt_tool.proofs.Replays.{none_beside, none_of_many, one_of_one, ends_without}
+use Rattle.mapt_tool.proofs.Replays.{none_beside, none_of_many, ends_without}
 use Rattle.mapt_tool.proofs.replay.with_setup.Goals as goal
 
 pub returns-then-has_more_captures : goal.returns-then-has_more_captures

@@ -1,9 +1,9 @@
-use Rattle.std.proofs.Common.{◌≡◌, Ok, Err}
+use Rattle.std.proofs.Common.{Ok}
 use Rattle.outside.specs.Seen.{folder_seen}
 use Rattle.mapt_tool.specs.Course.{IsSetup}
 use Rattle.mapt_tool.specs.Reading.{Answers}
 use Rattle.mapt_tool.specs.Replay.{ReplaysSetup}
-use Rattle.mapt_tool.proofs.Steps.{ends_first, ends_then, ends_here}
+use Rattle.mapt_tool.proofs.Steps.{ends_then, ends_here}
 use Rattle.mapt_tool.proofs.replay.with_text.Goals as goal
 
 pub returns-in-Ok : goal.returns-in-Ok
