@@ -5,6 +5,8 @@
   make_load.py full FILE     200,000 records in exactly 64 MiB: the most records, the longest file
   make_load.py long FILE     records of 1,480 octets in at most 64 MiB: the longest packets
 
+With the word `ethernet` behind them the same packets stand in Ethernet frames, and the capture says so.
+
 Prints the number of records.
 """
 
@@ -44,25 +46,39 @@ def long_lengths():
 LOADS = {"short": short_lengths, "full": full_lengths, "long": long_lengths}
 
 
-def capture(lengths):
+# An Ethernet header in front of an IPv4 packet, and where a file header has the link type.
+FRAME_HEADER = bytes.fromhex("020000000001020000000002" "0800")
+LINK_TYPE_AT = 20
+ETHERNET = 1
+
+
+def framed_header():
+    header = bytearray(FILE_HEADER)
+    header[LINK_TYPE_AT : LINK_TYPE_AT + 4] = ETHERNET.to_bytes(4, "little")
+    return header
+
+
+def capture(lengths, framed):
     """A capture of packets with these lengths, a microsecond apart."""
     made = {}
-    octets = bytearray(FILE_HEADER)
+    octets = framed_header() if framed else bytearray(FILE_HEADER)
+    front = FRAME_HEADER if framed else b""
     for number, length in enumerate(lengths):
         key = (number % MADE, length)
         if key not in made:
             payload = bytes((key[0] + at) % 256 for at in range(length - HEADERS))
             made[key] = packet(key[0], DESTINATION, PORT, payload)
-        octets += record(number, made[key])
+        octets += record(number, front + made[key])
     return octets
 
 
 def main():
-    if len(sys.argv) != 3 or sys.argv[1] not in LOADS:
+    framed = sys.argv[3:] == ["ethernet"]
+    if len(sys.argv) != (4 if framed else 3) or sys.argv[1] not in LOADS:
         print(__doc__, file=sys.stderr)
         return 2
     lengths = LOADS[sys.argv[1]]()
-    pathlib.Path(sys.argv[2]).write_bytes(capture(lengths))
+    pathlib.Path(sys.argv[2]).write_bytes(capture(lengths, framed))
     print(len(lengths))
     return 0
 

@@ -1,6 +1,6 @@
 #!/usr/bin/env bash
 # Proves and builds the program, replays the example with it in a folder of its own, and shows the packet
-# that went in and the one that came out.
+# that went in and the two that came out.
 set -eu
 
 top="$(cd "$(dirname "$0")/.." && pwd)"
@@ -32,3 +32,6 @@ echo
 echo "Out, on the access network: UDP over IPv6, from 2001:db8:12:3400:0:c000:212:34, port 1232,"
 echo "to 2001:db8:ffff:0:c6:3364:700:0, port 53"
 show_packet out-access.pcap
+echo
+echo "Out, in the core: UDP over IPv4, from 192.0.2.18:1232 to 198.51.100.7:53"
+show_packet out-core.pcap

@@ -33,7 +33,9 @@ check() {
     received="$(fields "$work/out-access.pcap" "ipv6 && udp" frame.number | wc -l)"
     right="$(fields "$work/out-access.pcap" "ipv6 && udp" udp.checksum.status | grep -c -x -e 1 -e Good || true)"
     echo "interop: $1: $sent packets in, $received out, $right of them with a right UDP sum"
-    [ "$sent" -gt 0 ] && [ "$received" -eq "$sent" ] && [ "$right" -eq "$sent" ]
+    arrived="$(fields "$work/out-core.pcap" "ip && udp" udp.checksum.status | grep -c -x -e 1 -e Good || true)"
+    echo "interop: $1: $arrived packets in the core with a right UDP sum"
+    [ "$sent" -gt 0 ] && [ "$received" -eq "$sent" ] && [ "$right" -eq "$sent" ] && [ "$arrived" -eq "$sent" ]
 }
 
 # Octets of a capture before the first packet: the file header and that of the record.

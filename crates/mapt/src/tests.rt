@@ -14,7 +14,7 @@ use std::sync::Wait;
 use std::test::Fail;
 use std::thread::Threads;
 
-/// The one configuration that is replayed.
+/// A home's configuration.
 const CONFIG: &[u8] = b"[domain]
 dmr = \"2001:db8:ffff::/64\"
 relay = \"198.51.100.1\"
@@ -39,26 +39,50 @@ const PLAIN: [u8; 30] = [
     0xc6, 0x33, 0x64, 0x07, 0x13, 0x88, 0x00, 0x35, 0x00, 0x0a, 0x97, 0xc6, 0x68, 0x69,
 ];
 
-/// What it is on the access network, from 2001:db8:12:3400:0:c000:212:34, port 1232.
-const OUTWARD: [u8; 50] = [
-    0x60, 0x00, 0x00, 0x00, 0x00, 0x0a, 0x11, 0x3f, 0x20, 0x01, 0x0d, 0xb8, 0x00, 0x12, 0x34, 0x00,
-    0x00, 0x00, 0xc0, 0x00, 0x02, 0x12, 0x00, 0x34, 0x20, 0x01, 0x0d, 0xb8, 0xff, 0xff, 0x00, 0x00,
-    0x00, 0xc6, 0x33, 0x64, 0x07, 0x00, 0x00, 0x00, 0x04, 0xd0, 0x00, 0x35, 0x00, 0x0a, 0x05, 0x77,
-    0x68, 0x69,
-];
-
-/// The same packet from port 2257, which is in the home's set.
-const CLAIMABLE: [u8; 30] = [
-    0x45, 0x00, 0x00, 0x1e, 0x00, 0x01, 0x00, 0x00, 0x40, 0x11, 0x8e, 0xe1, 0xc0, 0xa8, 0x01, 0x0a,
-    0xc6, 0x33, 0x64, 0x07, 0x08, 0xd1, 0x00, 0x35, 0x00, 0x0a, 0xa2, 0x7d, 0x68, 0x69,
-];
-
-/// It keeps its port.
-const OUTWARD_KEPT: [u8; 50] = [
-    0x60, 0x00, 0x00, 0x00, 0x00, 0x0a, 0x11, 0x3f, 0x20, 0x01, 0x0d, 0xb8, 0x00, 0x12, 0x34, 0x00,
-    0x00, 0x00, 0xc0, 0x00, 0x02, 0x12, 0x00, 0x34, 0x20, 0x01, 0x0d, 0xb8, 0xff, 0xff, 0x00, 0x00,
-    0x00, 0xc6, 0x33, 0x64, 0x07, 0x00, 0x00, 0x00, 0x08, 0xd1, 0x00, 0x35, 0x00, 0x0a, 0x01, 0x76,
-    0x68, 0x69,
+/// The packets of a host: on its LAN, on the access network, and in the core.
+const FLOWS: [(&[u8], &[u8], &[u8]); 7] = [
+    // a UDP packet, which gets the least port that the home may claim
+    (
+        b"\x45\x00\x00\x1e\x00\x01\x00\x00\x40\x11\x8e\xe1\xc0\xa8\x01\x0a\xc6\x33\x64\x07\x13\x88\x00\x35\x00\x0a\x97\xc6\x68\x69",
+        b"\x60\x00\x00\x00\x00\x0a\x11\x3f\x20\x01\x0d\xb8\x00\x12\x34\x00\x00\x00\xc0\x00\x02\x12\x00\x34\x20\x01\x0d\xb8\xff\xff\x00\x00\x00\xc6\x33\x64\x07\x00\x00\x00\x04\xd0\x00\x35\x00\x0a\x05\x77\x68\x69",
+        b"\x45\x00\x00\x1e\x00\x00\x00\x00\x3e\x11\x90\x82\xc0\x00\x02\x12\xc6\x33\x64\x07\x04\xd0\x00\x35\x00\x0a\xa6\x1e\x68\x69",
+    ),
+    // from port 2257, which is in the home's set and is kept
+    (
+        b"\x45\x00\x00\x1e\x00\x01\x00\x00\x40\x11\x8e\xe1\xc0\xa8\x01\x0a\xc6\x33\x64\x07\x08\xd1\x00\x35\x00\x0a\xa2\x7d\x68\x69",
+        b"\x60\x00\x00\x00\x00\x0a\x11\x3f\x20\x01\x0d\xb8\x00\x12\x34\x00\x00\x00\xc0\x00\x02\x12\x00\x34\x20\x01\x0d\xb8\xff\xff\x00\x00\x00\xc6\x33\x64\x07\x00\x00\x00\x08\xd1\x00\x35\x00\x0a\x01\x76\x68\x69",
+        b"\x45\x00\x00\x1e\x00\x00\x00\x00\x3e\x11\x90\x82\xc0\x00\x02\x12\xc6\x33\x64\x07\x08\xd1\x00\x35\x00\x0a\xa2\x1d\x68\x69",
+    ),
+    // a TCP packet
+    (
+        b"\x45\x00\x00\x28\x00\x01\x00\x00\x40\x06\x8e\xe2\xc0\xa8\x01\x0a\xc6\x33\x64\x07\x13\x88\x01\xbb\x00\x00\x00\x00\x00\x00\x00\x00\x50\x02\xff\xff\xae\xb2\x00\x00",
+        b"\x60\x00\x00\x00\x00\x14\x06\x3f\x20\x01\x0d\xb8\x00\x12\x34\x00\x00\x00\xc0\x00\x02\x12\x00\x34\x20\x01\x0d\xb8\xff\xff\x00\x00\x00\xc6\x33\x64\x07\x00\x00\x00\x04\xd0\x01\xbb\x00\x00\x00\x00\x00\x00\x00\x00\x50\x02\xff\xff\x1c\x63\x00\x00",
+        b"\x45\x00\x00\x28\x00\x00\x00\x00\x3e\x06\x90\x83\xc0\x00\x02\x12\xc6\x33\x64\x07\x04\xd0\x01\xbb\x00\x00\x00\x00\x00\x00\x00\x00\x50\x02\xff\xff\xbd\x0a\x00\x00",
+    ),
+    // a UDP sum that becomes 0 is written as 65535
+    (
+        b"\x45\x00\x00\x1e\x00\x01\x00\x00\x40\x11\x8e\xe1\xc0\xa8\x01\x0a\xc6\x33\x64\x07\x13\x88\x00\x35\x00\x0a\x92\x4f\x6d\xe0",
+        b"\x60\x00\x00\x00\x00\x0a\x11\x3f\x20\x01\x0d\xb8\x00\x12\x34\x00\x00\x00\xc0\x00\x02\x12\x00\x34\x20\x01\x0d\xb8\xff\xff\x00\x00\x00\xc6\x33\x64\x07\x00\x00\x00\x04\xd0\x00\x35\x00\x0a\xff\xff\x6d\xe0",
+        b"\x45\x00\x00\x1e\x00\x00\x00\x00\x3e\x11\x90\x82\xc0\x00\x02\x12\xc6\x33\x64\x07\x04\xd0\x00\x35\x00\x0a\xa0\xa7\x6d\xe0",
+    ),
+    // a UDP sum that is missing is computed
+    (
+        b"\x45\x00\x00\x1e\x00\x01\x00\x00\x40\x11\x8e\xe1\xc0\xa8\x01\x0a\xc6\x33\x64\x07\x13\x88\x00\x35\x00\x0a\x00\x00\x68\x69",
+        b"\x60\x00\x00\x00\x00\x0a\x11\x3f\x20\x01\x0d\xb8\x00\x12\x34\x00\x00\x00\xc0\x00\x02\x12\x00\x34\x20\x01\x0d\xb8\xff\xff\x00\x00\x00\xc6\x33\x64\x07\x00\x00\x00\x04\xd0\x00\x35\x00\x0a\x05\x77\x68\x69",
+        b"\x45\x00\x00\x1e\x00\x00\x00\x00\x3e\x11\x90\x82\xc0\x00\x02\x12\xc6\x33\x64\x07\x04\xd0\x00\x35\x00\x0a\xa6\x1e\x68\x69",
+    ),
+    // a wrong sum stays wrong
+    (
+        b"\x45\x00\x00\x1e\x00\x01\x00\x00\x40\x11\x8e\xe1\xc0\xa8\x01\x0a\xc6\x33\x64\x07\x13\x88\x00\x35\x00\x0a\x97\xc7\x68\x69",
+        b"\x60\x00\x00\x00\x00\x0a\x11\x3f\x20\x01\x0d\xb8\x00\x12\x34\x00\x00\x00\xc0\x00\x02\x12\x00\x34\x20\x01\x0d\xb8\xff\xff\x00\x00\x00\xc6\x33\x64\x07\x00\x00\x00\x04\xd0\x00\x35\x00\x0a\x05\x78\x68\x69",
+        b"\x45\x00\x00\x1e\x00\x00\x00\x00\x3e\x11\x90\x82\xc0\x00\x02\x12\xc6\x33\x64\x07\x04\xd0\x00\x35\x00\x0a\xa6\x1f\x68\x69",
+    ),
+    // options, the reserved flag, and octets after the end
+    (
+        b"\x46\x00\x00\x22\x00\x01\xc0\x00\x40\x11\xcb\xdb\xc0\xa8\x01\x0a\xc6\x33\x64\x07\x01\x01\x01\x00\x13\x88\x00\x35\x00\x0a\x97\xc6\x68\x69\xff\xff",
+        b"\x60\x00\x00\x00\x00\x0a\x11\x3f\x20\x01\x0d\xb8\x00\x12\x34\x00\x00\x00\xc0\x00\x02\x12\x00\x34\x20\x01\x0d\xb8\xff\xff\x00\x00\x00\xc6\x33\x64\x07\x00\x00\x00\x04\xd0\x00\x35\x00\x0a\x05\x77\x68\x69",
+        b"\x45\x00\x00\x1e\x00\x00\x00\x00\x3e\x11\x90\x82\xc0\x00\x02\x12\xc6\x33\x64\x07\x04\xd0\x00\x35\x00\x0a\xa6\x1e\x68\x69",
+    ),
 ];
 
 /// An Ethernet capture with the highest octet first, in nanoseconds: the plain packet at 7.000001999 s, behind one
@@ -116,49 +140,164 @@ fn status_of(alloc: Global, config: &[u8], lan: &[u8]) -> Result<Status, Fail> {
     Ok(mapt_plain(alloc, &words, &mut folder, &mut out))
 }
 
-/// Whether both top calls replay this LAN capture, write this access capture, and print nothing.
+/// Whether both top calls replay this configuration and LAN capture, write these captures, and print nothing.
 fn replays<R: Threads + Wait + Sync>(
     rt: &R,
     alloc: Global,
+    config: &[u8],
     lan: &[u8],
     access: &[u8],
+    core: &[u8],
 ) -> Result<bool, Fail> {
     let words = words_of(alloc, &["replay", "home.toml", "out-"])?;
-    let name = "out-access.pcap";
-    let mut plain = folder_of(alloc, CONFIG, lan)?;
-    let mut shared = folder_of(alloc, CONFIG, lan)?;
+    let mut plain = folder_of(alloc, config, lan)?;
+    let mut shared = folder_of(alloc, config, lan)?;
     let mut out = SureSink::new(alloc);
     let alone = mapt_plain(alloc, &words, &mut plain, &mut out);
     let together = mapt(rt, alloc, &words, &mut shared, &mut out, &FreeGate::new());
-    let is_same = plain.file(name) == Some(access) && shared.file(name) == Some(access);
     let is_silent = out.as_slice() == b"".as_slice();
-    Ok(alone == Status::Done && together == Status::Done && is_same && is_silent)
+    let are_done = alone == Status::Done && together == Status::Done && is_silent;
+    Ok(are_done && holds(&plain, access, core) && holds(&shared, access, core))
+}
+
+/// Whether these captures were written.
+fn holds(folder: &SureFolder, access: &[u8], core: &[u8]) -> bool {
+    folder.file("out-access.pcap") == Some(access) && folder.file("out-core.pcap") == Some(core)
 }
 
 #[test]
 fn a_homes_packets_are_replayed(rt: HostRuntime) -> Result<(), Fail> {
     let alloc = rt.alloc();
-    let lan = capture_of(&rt, alloc, &[&PLAIN, &PLAIN])?;
-    let access = capture_of(&rt, alloc, &[&OUTWARD, &OUTWARD])?;
-    assert!(rt; replays(&rt, alloc, lan.as_slice(), access.as_slice())?);
-    let lan = capture_of(&rt, alloc, &[&CLAIMABLE])?;
-    let access = capture_of(&rt, alloc, &[&OUTWARD_KEPT])?;
-    assert!(rt; replays(&rt, alloc, lan.as_slice(), access.as_slice())?);
-    assert!(rt; replays(&rt, alloc, &EMPTY, &EMPTY)?);
+    for (packet, outward, arriving) in FLOWS {
+        let lan = capture_of(&rt, alloc, &[packet])?;
+        let access = capture_of(&rt, alloc, &[outward])?;
+        let core = capture_of(&rt, alloc, &[arriving])?;
+        assert!(rt;
+            replays(
+                &rt,
+                alloc,
+                CONFIG,
+                lan.as_slice(),
+                access.as_slice(),
+                core.as_slice()
+            )?
+        );
+    }
+    assert!(rt; replays(&rt, alloc, CONFIG, &EMPTY, &EMPTY, &EMPTY)?);
+    Ok(())
+}
+
+/// The first packet as the record of number 1, in the core: a record's number is its identification.
+const SECOND: &[u8] =
+    b"\x45\x00\x00\x1e\x00\x01\x00\x00\x3e\x11\x90\x81\xc0\x00\x02\x12\xc6\x33\x64\x07\x04\xd0\x00\x35\x00\x0a\xa6\x1e\x68\x69";
+
+#[test]
+fn one_source_a_protocol(rt: HostRuntime) -> Result<(), Fail> {
+    let alloc = rt.alloc();
+    let [udp, _, tcp, ..] = FLOWS;
+    let lan = capture_of(&rt, alloc, &[tcp.0, udp.0])?;
+    let access = capture_of(&rt, alloc, &[tcp.1, udp.1])?;
+    let core = capture_of(&rt, alloc, &[tcp.2, SECOND])?;
+    assert!(rt;
+        replays(
+            &rt,
+            alloc,
+            CONFIG,
+            lan.as_slice(),
+            access.as_slice(),
+            core.as_slice()
+        )?
+    );
     Ok(())
 }
 
 #[test]
 fn padding_belongs_to_no_packet(rt: HostRuntime) -> Result<(), Fail> {
     let alloc = rt.alloc();
+    let [udp, ..] = FLOWS;
     let mut access = Writer::new(alloc)?;
-    access.add(7_000_001, &OUTWARD)?;
-    assert!(rt; replays(&rt, alloc, &PADDED, access.as_slice())?);
+    access.add(7_000_001, udp.1)?;
+    let mut core = Writer::new(alloc)?;
+    core.add(7_000_001, udp.2)?;
+    assert!(rt;
+        replays(
+            &rt,
+            alloc,
+            CONFIG,
+            &PADDED,
+            access.as_slice(),
+            core.as_slice()
+        )?
+    );
     // With the type of ARP behind the tag.
     let mut arp = PADDED;
     arp[57] = 0x06;
     let not_built = Status::NotBuilt(FileId::InLan(0));
     assert_eq!(rt; status_of(alloc, CONFIG, &arp)?, not_built);
+    Ok(())
+}
+
+/// A configuration with a prefix of 96 bits for far addresses, and an edge that has all ports of its address.
+const WHOLE_ADDRESS: &[u8] = b"[domain]
+dmr = \"64:ff9b::/96\"
+relay = \"198.51.100.1\"
+mtu4 = 1280
+mtu6 = 1500
+
+[[rule]]
+prefix6 = \"2001:db8::/40\"
+prefix4 = \"192.0.2.0/24\"
+ea = 8
+
+[[edge]]
+name = \"whole\"
+prefix = \"2001:db8:12::/48\"
+lan = \"192.168.1.1\"
+capture = \"lan-home.pcap\"
+";
+
+/// The home's configuration without a capture.
+const SILENT: &[u8] = b"[domain]
+dmr = \"2001:db8:ffff::/64\"
+relay = \"198.51.100.1\"
+mtu4 = 1500
+mtu6 = 1500
+
+[[rule]]
+prefix6 = \"2001:db8::/40\"
+prefix4 = \"192.0.2.0/24\"
+ea = 16
+
+[[edge]]
+name = \"home\"
+prefix = \"2001:db8:12:3400::/56\"
+lan = \"192.168.1.1\"
+";
+
+/// The first packet, from 2001:db8:12:0:0:c000:212:0 with its port, and in the core.
+const FROM_WHOLE: (&[u8], &[u8]) = (
+    b"\x60\x00\x00\x00\x00\x0a\x11\x3f\x20\x01\x0d\xb8\x00\x12\x00\x00\x00\x00\xc0\x00\x02\x12\x00\x00\x00\x64\xff\x9b\x00\x00\x00\x00\x00\x00\x00\x00\xc6\x33\x64\x07\x13\x88\x00\x35\x00\x0a\x69\x9b\x68\x69",
+    b"\x45\x00\x00\x1e\x00\x00\x00\x00\x3e\x11\x90\x82\xc0\x00\x02\x12\xc6\x33\x64\x07\x13\x88\x00\x35\x00\x0a\x97\x66\x68\x69",
+);
+
+#[test]
+fn another_edge_is_replayed(rt: HostRuntime) -> Result<(), Fail> {
+    let alloc = rt.alloc();
+    let lan = capture_of(&rt, alloc, &[&PLAIN])?;
+    let access = capture_of(&rt, alloc, &[FROM_WHOLE.0])?;
+    let core = capture_of(&rt, alloc, &[FROM_WHOLE.1])?;
+    assert!(rt;
+        replays(
+            &rt,
+            alloc,
+            WHOLE_ADDRESS,
+            lan.as_slice(),
+            access.as_slice(),
+            core.as_slice()
+        )?
+    );
+    // An edge without a capture has no records.
+    assert!(rt; replays(&rt, alloc, SILENT, b"", &EMPTY, &EMPTY)?);
     Ok(())
 }
 
@@ -385,15 +524,15 @@ fn is_not_served(
 #[test]
 fn packets_that_are_not_served(rt: HostRuntime) -> Result<(), Fail> {
     let alloc = rt.alloc();
-    // Options, a total that is too long, each bit and the offset of the fragment field, a TTL of 2, TCP, a UDP
-    // length that is too long; a destination in the rule's own prefix, and one in a group.
+    // A datagram that options leave too short, a total that is too long, more fragments, an offset, a TTL of 2, ICMP, TCP
+    // without its header, a UDP length that is too long, and a destination in a group.
     let octets = [
         (0, 0x46),
         (3, 31),
-        (6, 0x80),
         (6, 0x20),
         (7, 1),
         (8, 2),
+        (9, 1),
         (9, 6),
         (25, 11),
         (16, 224),
@@ -411,10 +550,14 @@ fn captures_that_are_not_served(rt: HostRuntime) -> Result<(), Fail> {
     let mut wrong_sum = PLAIN;
     wrong_sum[11] = 0xe2;
     assert!(rt; is_not_served(&rt, alloc, None, &wrong_sum)?);
-    let mut no_udp_sum = PLAIN;
-    no_udp_sum[26] = 0;
-    no_udp_sum[27] = 0;
-    assert!(rt; is_not_served(&rt, alloc, None, &no_udp_sum)?);
+    // In the rule's own 192.0.2.0/24.
+    let mut inside = PLAIN;
+    BigEndian::write_u32(&mut inside[16..], 0xc000_0207);
+    inside[10] = 0;
+    inside[11] = 0;
+    let check = check_of(sum(&inside[..20]));
+    BigEndian::write_u16(&mut inside[10..], check);
+    assert!(rt; is_not_served(&rt, alloc, None, &inside)?);
     assert!(rt; is_not_served(&rt, alloc, None, &PLAIN[..27])?);
     assert!(rt; is_not_served(&rt, alloc, None, b"")?);
     let other_port = with_octet(&rt, 21, 0x89);
@@ -427,6 +570,41 @@ fn captures_that_are_not_served(rt: HostRuntime) -> Result<(), Fail> {
     writer.add(1, &PLAIN)?;
     let not_built = Status::NotBuilt(FileId::InLan(0));
     assert_eq!(rt; status_of(alloc, CONFIG, writer.as_slice())?, not_built);
+    Ok(())
+}
+
+/// A UDP packet with so many octets behind its header, and no UDP sum.
+fn sized(rt: &impl Abort, alloc: Global, len: usize) -> Result<Vec<u8>, Fail> {
+    assert!(rt; 8 <= len && len < 2_000);
+    let mut packet = vec![in alloc; 0; 20 + len]?;
+    for i in 0..24 {
+        packet[i] = PLAIN[i];
+    }
+    BigEndian::write_u16(&mut packet[2..], 20 + len as u16);
+    BigEndian::write_u16(&mut packet[24..], len as u16);
+    BigEndian::write_u16(&mut packet[10..], 0);
+    let check = check_of(sum(&packet[..20]));
+    BigEndian::write_u16(&mut packet[10..], check);
+    Ok(packet)
+}
+
+#[test]
+fn packets_fit_both_networks(rt: HostRuntime) -> Result<(), Fail> {
+    let alloc = rt.alloc();
+    let not_built = Status::NotBuilt(FileId::InLan(0));
+    let rows = [
+        // 40 octets of header and these are 1500
+        (CONFIG, 1460, Status::Done),
+        (CONFIG, 1461, not_built),
+        // 20 octets of header and these are 1280
+        (WHOLE_ADDRESS, 1260, Status::Done),
+        (WHOLE_ADDRESS, 1261, not_built),
+    ];
+    for (config, len, want) in rows {
+        let packet = sized(&rt, alloc, len)?;
+        let lan = capture_of(&rt, alloc, &[&packet])?;
+        assert_eq!(rt; status_of(alloc, config, lan.as_slice())?, want);
+    }
     Ok(())
 }
 
@@ -443,6 +621,121 @@ fn ends(alloc: Global, config: &[u8], lan: &[u8], status: Status) -> Result<bool
     Ok(status_of(alloc, config, lan)? == status)
 }
 
+/// Configurations that are not served yet.
+const NOT_SERVED: [&[u8]; 6] = [
+    // no edge
+    b"[domain]
+dmr = \"2001:db8:ffff::/64\"
+relay = \"198.51.100.1\"
+mtu4 = 1500
+mtu6 = 1500
+
+[[rule]]
+prefix6 = \"2001:db8::/40\"
+prefix4 = \"192.0.2.0/24\"
+ea = 16
+",
+    // two edges
+    b"[domain]
+dmr = \"2001:db8:ffff::/64\"
+relay = \"198.51.100.1\"
+mtu4 = 1500
+mtu6 = 1500
+
+[[rule]]
+prefix6 = \"2001:db8::/40\"
+prefix4 = \"192.0.2.0/24\"
+ea = 16
+
+[[edge]]
+name = \"e0\"
+prefix = \"2001:db8:12:3400::/56\"
+lan = \"192.168.1.1\"
+capture = \"lan-home.pcap\"
+
+[[edge]]
+name = \"e1\"
+prefix = \"2001:db8:12:3500::/56\"
+lan = \"192.168.1.1\"
+capture = \"lan-home.pcap\"
+",
+    // a capture of the access network
+    b"[domain]
+dmr = \"2001:db8:ffff::/64\"
+relay = \"198.51.100.1\"
+mtu4 = 1500
+mtu6 = 1500
+access = \"access-in.pcap\"
+
+[[rule]]
+prefix6 = \"2001:db8::/40\"
+prefix4 = \"192.0.2.0/24\"
+ea = 16
+
+[[edge]]
+name = \"e0\"
+prefix = \"2001:db8:12:3400::/56\"
+lan = \"192.168.1.1\"
+capture = \"lan-home.pcap\"
+",
+    // a capture of the core
+    b"[domain]
+dmr = \"2001:db8:ffff::/64\"
+relay = \"198.51.100.1\"
+mtu4 = 1500
+mtu6 = 1500
+core = \"core-in.pcap\"
+
+[[rule]]
+prefix6 = \"2001:db8::/40\"
+prefix4 = \"192.0.2.0/24\"
+ea = 16
+
+[[edge]]
+name = \"e0\"
+prefix = \"2001:db8:12:3400::/56\"
+lan = \"192.168.1.1\"
+capture = \"lan-home.pcap\"
+",
+    // a prefix that no rule fits
+    b"[domain]
+dmr = \"2001:db8:ffff::/64\"
+relay = \"198.51.100.1\"
+mtu4 = 1500
+mtu6 = 1500
+
+[[rule]]
+prefix6 = \"2001:db8::/40\"
+prefix4 = \"192.0.2.0/24\"
+ea = 16
+
+[[edge]]
+name = \"e0\"
+prefix = \"2001:db8:12:3400::/57\"
+lan = \"192.168.1.1\"
+capture = \"lan-home.pcap\"
+",
+    // port 0 alone
+    b"[domain]
+dmr = \"2001:db8:ffff::/64\"
+relay = \"198.51.100.1\"
+mtu4 = 1500
+mtu6 = 1500
+
+[[rule]]
+prefix6 = \"2001:db8::/40\"
+prefix4 = \"192.0.2.0/24\"
+ea = 24
+offset = 0
+
+[[edge]]
+name = \"e0\"
+prefix = \"2001:db8:12::/64\"
+lan = \"192.168.1.1\"
+capture = \"lan-home.pcap\"
+",
+];
+
 #[test]
 fn files_that_are_refused(rt: HostRuntime) -> Result<(), Fail> {
     let alloc = rt.alloc();
@@ -452,8 +745,13 @@ fn files_that_are_refused(rt: HostRuntime) -> Result<(), Fail> {
     let not_pcap = Status::CaptureRefused(FileId::InLan(0), CaptureFault::NotPcap);
     let cut_first = Status::CaptureRefused(FileId::InLan(0), CaptureFault::Cut(0));
     let cut_second = Status::CaptureRefused(FileId::InLan(0), CaptureFault::Cut(1));
-    assert!(rt; ends(alloc, b"", lan, no_config)?);
-    assert!(rt; ends(alloc, cut(CONFIG), lan, no_config)?);
+    let no_domain = Status::SetupRefused(SetupCause::BadDomain, 0);
+    assert!(rt; ends(alloc, b"", lan, no_domain)?);
+    let no_toml = Status::SetupRefused(SetupCause::NotToml, 0);
+    assert!(rt; ends(alloc, cut(cut(CONFIG)), lan, no_toml)?);
+    for config in NOT_SERVED {
+        assert!(rt; ends(alloc, config, lan, no_config)?);
+    }
     assert!(rt; ends(alloc, CONFIG, b"", not_pcap)?);
     assert!(rt; ends(alloc, CONFIG, cut(lan), cut_first)?);
     let mut longer = Vec::from_slice(alloc, lan)?;
@@ -500,6 +798,7 @@ fn calls_that_fail(rt: HostRuntime) -> Result<(), Fail> {
     let status = mapt_plain(alloc, &words, &mut folder, &mut out);
     assert_eq!(rt; status, Status::WriteFault(FileId::OutAccess));
     assert_eq!(rt; folder.file("out-access.pcap"), None);
+    assert_eq!(rt; folder.file("out-core.pcap"), None);
     assert!(rt; out.put(alloc, b"text").is_err());
     assert!(rt; out.put(alloc, b"text").is_ok());
     assert_eq!(rt; out.as_slice(), b"text".as_slice());

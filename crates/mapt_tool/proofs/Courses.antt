@@ -1,6 +1,5 @@
 -- What is true of the course of every command: it comes to one thing at most, and what it reads is bounded.
-use Rattle.std.proofs.Common.{◌≡◌, ℕ, ◌-◌, List, length, Option, Some, None, Result, Ok, Err, sym, ap, ◌∙◌, inl, inr}
-use Rattle.std.specs.Prelude.{codes}
+use Rattle.std.proofs.Common.{◌≡◌, ℕ, ◌-◌, List, [], length, Option, Some, None, Result, Ok, Err, refl, sym, ap, ◌∙◌, inl, inr}
 use Rattle.outside.specs.declared.file_id.FileId.TheVariants.{Config, InLan, Options}
 use Rattle.mapt_setup.specs.declared.setup.Setup.{Setup}
 use Rattle.mapt_setup.specs.declared.fault.SetupFault.{SetupFault}
@@ -17,11 +16,18 @@ use Rattle.std.proofs.lemmas.Option.{same_Some}
 use Rattle.mapt_tool.specs.declared.status.Status.{Status}
 use Rattle.mapt_tool.specs.declared.status.Status.TheVariants.{SetupRefused}
 use Rattle.mapt_tool.specs.Course.{IsSetup, Configures, rules_said, owner_said, Course}
-use Rattle.mapt_tool.specs.Limits.{command_limit, limit_of}
+use Rattle.mapt_tool.specs.Limits.{command_limit, limit_of, record_limit}
 use Rattle.mapt_tool.specs.Planned.{Planned, says}
 use Rattle.mapt_tool.specs.Printed.{IsHex, IsContainer, IsOptions}
-use Rattle.mapt_tool.specs.Reading.{Answers, Reads}
-use Rattle.mapt_tool.specs.Replay.{home_only, planned_of, ReplaysLan, ReplaysText}
+use Rattle.mapt_tool.specs.Reading.{Answers, Reads, Then}
+use Rattle.pcap_files.specs.declared.records.Record.{Record}
+use Rattle.pcap_files.specs.declared.fault.CaptureFault.{CaptureFault}
+use Rattle.pcap_files.specs.Capture.{capture}
+use Rattle.mapt_setup.specs.declared.edge.EdgeLine.{EdgeLine}
+use Rattle.one_edge.specs.declared.captures.Captures.{Captures}
+use Rattle.one_edge.specs.Edge.{Edge}
+use Rattle.one_edge.proofs.One.{same_edge, same_made, edge_or_none}
+use Rattle.mapt_tool.specs.Replay.{Replayed, only_edge, IsEdgeOf, HasNoEdge, IsReplayed, replay_plan, IsPlanned, IsPlannedBy, ReplaysLan, ReplaysSetup}
 use Rattle.mapt_tool.specs.Request.{Request, replay, rules, owner, options}
 use Rattle.mapt_tool.specs.Status.{status_of}
 use Rattle.mapt_tool.proofs.Single.{IsSingle, then_single, answers_single, determined, reads_single}
@@ -53,13 +59,48 @@ configures_single : (config : List ℕ) → IsSingle (Configures config)
 configures_single config =
     then_single (Reads Config config (limit_of command_limit)) (λ text. Answers (IsSetup text)) (reads_single Config config (limit_of command_limit)) (λ text. answers_single (IsSetup text) (setup_one text))
 
-lan_single : (prefix : List ℕ) (left : ℕ) → IsSingle (ReplaysLan prefix left)
-lan_single prefix left =
-    then_single (Reads (InLan 0) (codes "lan-home.pcap") (limit_of left)) (λ octets. Answers (λ answer. answer ≡ planned_of prefix octets)) (reads_single (InLan 0) (codes "lan-home.pcap") (limit_of left)) (λ octets. determined (planned_of prefix octets))
+planned_one : (prefix : List ℕ) (e : Edge) (records : List Record) (x y : Result Planned Status) → IsPlanned prefix e records x → IsPlanned prefix e records y → x ≡ y
+planned_one prefix e records (Ok p) (Ok q) h g = ap Ok (h.3 ∙ ap (λ (made : Captures). replay_plan prefix made) (same_made e records h.1 g.1 h.2 g.2) ∙ sym g.3)
+planned_one prefix e records (Ok p) (Err f) h g = absurd (g.1 h.0)
+planned_one prefix e records (Err f) (Ok q) h g = absurd (h.1 g.0)
+planned_one prefix e records (Err f) (Err g') h g = ap Err (h.0 ∙ sym g.0)
 
-home_single : (prefix text : List ℕ) → IsSingle (ReplaysText prefix (command_limit - length text) text)
-home_single prefix text =
-    then_single (Answers (λ answer. answer ≡ home_only text)) (λ _. ReplaysLan prefix (command_limit - length text)) (determined (home_only text)) (λ _. lan_single prefix (command_limit - length text))
+planned_by_one : (prefix : List ℕ) (e : Edge) (read : Result (List Record) CaptureFault) (x y : Result Planned Status) → IsPlannedBy prefix e read x → IsPlannedBy prefix e read y → x ≡ y
+planned_by_one prefix e (Ok records) x y h g = planned_one prefix e records x y h g
+planned_by_one prefix e (Err fault) x y h g = h ∙ sym g
+
+lan_single : (prefix : List ℕ) (left : ℕ) (e : Edge) (lan : Option (List ℕ)) → IsSingle (ReplaysLan prefix left e lan)
+lan_single prefix left e None = answers_single (IsPlanned prefix e []) (planned_one prefix e [])
+lan_single prefix left e (Some name) =
+    then_single (Reads (InLan 0) name (limit_of left)) (λ octets. Answers (IsPlannedBy prefix e (capture record_limit octets))) (reads_single (InLan 0) name (limit_of left))
+    (λ octets. answers_single (IsPlannedBy prefix e (capture record_limit octets)) (planned_by_one prefix e (capture record_limit octets)))
+
+same_replayed : (setup : Setup) (line : Option EdgeLine) (x y : Replayed) → IsEdgeOf setup line x → IsEdgeOf setup line y → x ≡ y
+same_replayed setup None x y h g = absurd h
+same_replayed setup (Some line) x y h g =
+    let edge : x.edge ≡ y.edge = same_edge setup.book line.prefix setup.mtus x.edge y.edge h.0 g.0 in
+    let lan : x.lan ≡ y.lan = h.1 ∙ sym g.1 in
+    let made : Replayed = record { edge = x.edge; lan = x.lan } in
+    let first : x ≡ made = refl in
+    first ∙ rw (edge, lan) refl
+
+not_both_edges : (setup : Setup) (line : Option EdgeLine) (x : Replayed) → IsEdgeOf setup line x → HasNoEdge setup line → ⊥
+not_both_edges setup None x h g = h
+not_both_edges setup (Some line) x h g = edge_or_none setup.book line.prefix setup.mtus x.edge h.0 g
+
+replayed_one : (setup : Setup) (x y : Result Replayed Status) → IsReplayed setup x → IsReplayed setup y → x ≡ y
+replayed_one setup (Ok x) (Ok y) h g = ap Ok (same_replayed setup (only_edge setup) x y h g)
+replayed_one setup (Ok x) (Err f) h g = absurd (not_both_edges setup (only_edge setup) x h g.1)
+replayed_one setup (Err e) (Ok y) h g = absurd (not_both_edges setup (only_edge setup) y g h.1)
+replayed_one setup (Err e) (Err f) h g = ap Err (h.0 ∙ sym g.0)
+
+setup_single : (prefix : List ℕ) (left : ℕ) (setup : Setup) → IsSingle (ReplaysSetup prefix left setup)
+setup_single prefix left setup =
+    then_single (Answers (IsReplayed setup)) (λ x. ReplaysLan prefix left x.edge x.lan) (answers_single (IsReplayed setup) (replayed_one setup)) (λ x. lan_single prefix left x.edge x.lan)
+
+text_single : (prefix text : List ℕ) → IsSingle (Then (Answers (IsSetup text)) (λ setup. ReplaysSetup prefix (command_limit - length text) setup))
+text_single prefix text =
+    then_single (Answers (IsSetup text)) (λ setup. ReplaysSetup prefix (command_limit - length text) setup) (answers_single (IsSetup text) (setup_one text)) (λ setup. setup_single prefix (command_limit - length text) setup)
 
 -- ---- options
 
@@ -146,7 +187,7 @@ options_one text (Err e) (Err f) (inr h) (inr g) =
 
 pub course_single : (request : Request) → IsSingle (Course request)
 course_single (replay config prefix) =
-    then_single (Reads Config config (limit_of command_limit)) (λ text. ReplaysText prefix (command_limit - length text) text) (reads_single Config config (limit_of command_limit)) (home_single prefix)
+    then_single (Reads Config config (limit_of command_limit)) (λ text. Then (Answers (IsSetup text)) (λ setup. ReplaysSetup prefix (command_limit - length text) setup)) (reads_single Config config (limit_of command_limit)) (text_single prefix)
 course_single (rules config generation) =
     then_single (Configures config) (λ setup. Answers (λ answer. answer ≡ rules_said setup generation)) (configures_single config) (λ setup. determined (rules_said setup generation))
 course_single (owner config generation addr port) =

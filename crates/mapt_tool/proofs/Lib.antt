@@ -1,14 +1,11 @@
 pub mod Bounds
 pub mod Configured
 pub mod Courses
-pub mod Datagram
 pub mod Ending
 pub mod Forms
 pub mod Numbers
 pub mod Pieces
-pub mod Served
-pub mod ServedHeaders
+pub mod Replays
 pub mod Single
 pub mod Steps
-pub mod Trials
 pub mod Writes

@@ -1,6 +1,6 @@
 -- What each command comes to, step by step: the files that it reads, in their order, and then what it does to the
 -- outside or why it refuses. The definitions of this file are relations, since what a text sets up is one.
-use Rattle.std.specs.Prelude.{◌≡◌, ℕ, List, map, Result, Ok, Err}
+use Rattle.std.specs.Prelude.{◌≡◌, ℕ, ◌-◌, List, length, map, Result, Ok, Err}
 use Rattle.outside.specs.declared.file_id.FileId.TheVariants.{Config, Options}
 use Rattle.rule_book.specs.declared.book.Book.{Book}
 use Rattle.rule_book.specs.Book.{rules_of, dmr_of}
@@ -13,7 +13,7 @@ use Rattle.mapt_tool.specs.Limits.{limit_of, command_limit}
 use Rattle.mapt_tool.specs.Planned.{Planned, says}
 use Rattle.mapt_tool.specs.Printed.{IsOptions}
 use Rattle.mapt_tool.specs.Reading.{Read, Next, Answers, Reads, Then}
-use Rattle.mapt_tool.specs.Replay.{ReplaysHome}
+use Rattle.mapt_tool.specs.Replay.{ReplaysSetup}
 use Rattle.mapt_tool.specs.Request.{Request, replay, rules, owner, options}
 use Rattle.mapt_tool.specs.Status.{status_of}
 
@@ -40,9 +40,15 @@ abbrev pub owner_said : Setup → ℕ → ℕ → ℕ → Result Planned Status
 owner_said setup generation addr port =
     said_of (λ book. owner_text (rules_of book) (map (λ e. e.prefix) setup.edges) (map (λ e. e.name) setup.edges) addr port) (book_at setup generation)
 
+-- the configuration of this name is read and set up, and then replayed with what is left of the command's octets
+abbrev pub Replays : List ℕ → List ℕ → List Read → Next Planned Status → Type 0
+Replays config prefix =
+    Then (Reads Config config (limit_of command_limit))
+    (λ text. Then (Answers (IsSetup text)) (λ setup. ReplaysSetup prefix (command_limit - length text) setup))
+
 -- what a command comes to
 abbrev pub Course : Request → List Read → Next Planned Status → Type 0
-Course (replay config prefix) = ReplaysHome config prefix
+Course (replay config prefix) = Replays config prefix
 Course (rules config generation) = Then (Configures config) (λ setup. Answers (λ answer. answer ≡ rules_said setup generation))
 Course (owner config generation addr port) =
     Then (Configures config) (λ setup. Answers (λ answer. answer ≡ owner_said setup generation addr port))

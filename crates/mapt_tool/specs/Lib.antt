@@ -1,7 +1,6 @@
 pub mod Carried
 pub mod Course
 pub mod Ended
-pub mod Home
 pub mod Limits
 pub mod Outcome
 pub mod Pieces

@@ -19,7 +19,7 @@ use rule_book::{Book, owner_line};
 use std::alloc::Global;
 
 /// The setup of these octets.
-fn setup_in(alloc: Global, text: &[u8]) -> Result<Setup, Status>
+pub fn setup_in(alloc: Global, text: &[u8]) -> Result<Setup, Status>
     ensures { Given (IsSetup text.now) result }
 {
     match Setup::read(alloc, text) {

@@ -3,8 +3,6 @@
 
 mod asked;
 mod carrying;
-mod config;
-mod home;
 mod laws;
 mod plan;
 mod printed;

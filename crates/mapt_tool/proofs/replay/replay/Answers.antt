@@ -1,9 +1,10 @@
 use Rattle.std.proofs.Common.{◌-◌, length}
 use Rattle.outside.specs.Seen.{folder_seen}
 use Rattle.outside.specs.declared.file_id.FileId.TheVariants.{Config}
+use Rattle.mapt_tool.specs.Course.{IsSetup}
 use Rattle.mapt_tool.specs.Limits.{limit_of, command_limit}
-use Rattle.mapt_tool.specs.Reading.{Reads}
-use Rattle.mapt_tool.specs.Replay.{ReplaysText}
+use Rattle.mapt_tool.specs.Reading.{Answers, Reads, Then}
+use Rattle.mapt_tool.specs.Replay.{ReplaysSetup}
 use Rattle.mapt_tool.proofs.Steps.{ends_first, ends_then}
 use Rattle.mapt_tool.proofs.replay.replay.Goals as goal
 
@@ -11,11 +12,11 @@ pub returns-in-Err : goal.returns-in-Err
 returns-in-Err g c =
     let folder = g.F.Folder in
     let seen = folder_seen folder.files folder.handed folder.faults folder.last in
-    ends_first (Reads Config c.args.config.now (limit_of command_limit)) (λ text. ReplaysText c.args.prefix.now (command_limit - length text) text) (seen c.args.folder.now) (seen c.read_text.new.folder) c.in-Err.status c.in-Err.ensures.ended
+    ends_first (Reads Config c.args.config.now (limit_of command_limit)) (λ text. Then (Answers (IsSetup text)) (λ setup. ReplaysSetup c.args.prefix.now (command_limit - length text) setup)) (seen c.args.folder.now) (seen c.read_text.new.folder) c.in-Err.status c.in-Err.ensures.ended
 
 pub returns : goal.returns
 returns g c =
     let folder = g.F.Folder in
     let seen = folder_seen folder.files folder.handed folder.faults folder.last in
-    ends_then (Reads Config c.args.config.now (limit_of command_limit)) (λ text. ReplaysText c.args.prefix.now (command_limit - length text) text) (seen c.args.folder.now) (seen c.read_text.new.folder) (seen c.with_text.new.folder) c.in-Ok.text c.with_text.result c.in-Ok.ensures.ended
+    ends_then (Reads Config c.args.config.now (limit_of command_limit)) (λ text. Then (Answers (IsSetup text)) (λ setup. ReplaysSetup c.args.prefix.now (command_limit - length text) setup)) (seen c.args.folder.now) (seen c.read_text.new.folder) (seen c.with_text.new.folder) c.in-Ok.text c.with_text.result c.in-Ok.ensures.ended
     (rw (c.as_slice.ensures, c.as_slice-2.ensures) at c.with_text.ensures)

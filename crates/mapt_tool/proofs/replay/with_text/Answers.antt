@@ -1,8 +1,9 @@
-use Rattle.std.proofs.Common.{◌≡◌, Ok, Err}
+use Rattle.std.proofs.Common.{Ok}
 use Rattle.outside.specs.Seen.{folder_seen}
+use Rattle.mapt_tool.specs.Course.{IsSetup}
 use Rattle.mapt_tool.specs.Reading.{Answers}
-use Rattle.mapt_tool.specs.Replay.{home_only, ReplaysLan}
-use Rattle.mapt_tool.proofs.Steps.{ends_first, ends_then, ends_here}
+use Rattle.mapt_tool.specs.Replay.{ReplaysSetup}
+use Rattle.mapt_tool.proofs.Steps.{ends_then, ends_here}
 use Rattle.mapt_tool.proofs.replay.with_text.Goals as goal
 
 pub returns-in-Ok : goal.returns-in-Ok
@@ -10,13 +11,5 @@ returns-in-Ok g c =
     let folder = g.F.Folder in
     let seen = folder_seen folder.files folder.handed folder.faults folder.last in
     let now = seen c.args.folder.now in
-    ends_then (Answers (λ answer. answer ≡ home_only c.args.text.now)) (λ _. ReplaysLan c.args.prefix.now c.args.left) now now (seen c.with_lan.new.folder) tt c.with_lan.result
-    (ends_here (λ answer. answer ≡ home_only c.args.text.now) now (Ok tt) c.in-Ok.ensures) c.with_lan.ensures
-
-pub returns-in-Err : goal.returns-in-Err
-returns-in-Err g c =
-    let folder = g.F.Folder in
-    let seen = folder_seen folder.files folder.handed folder.faults folder.last in
-    let now = seen c.args.folder.now in
-    ends_first (Answers (λ answer. answer ≡ home_only c.args.text.now)) (λ _. ReplaysLan c.args.prefix.now c.args.left) now now c.in-Err.status
-    (ends_here (λ answer. answer ≡ home_only c.args.text.now) now (Err c.in-Err.status) c.in-Err.ensures)
+    ends_then (Answers (IsSetup c.args.text.now)) (λ setup. ReplaysSetup c.args.prefix.now c.args.left setup) now now (seen c.with_setup.new.folder) c.in-Ok.setup c.with_setup.result
+    (ends_here (IsSetup c.args.text.now) now (Ok c.in-Ok.setup) c.in-Ok.ensures) c.with_setup.ensures

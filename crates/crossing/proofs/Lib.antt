@@ -1,0 +1,4 @@
+pub mod Flow
+pub mod Sums
+pub mod Twice
+pub mod Trials

@@ -1,0 +1,6 @@
+//! A packet that crosses the domain: what an edge replaces in it, and in what it then differs when it arrives.
+#![tactic(auto)]
+
+mod laws;
+
+pub use laws::whole_flows_go_out_with_the_named_changes;
