@@ -1,8 +1,14 @@
 pub mod Seen
 pub mod Spellings
-pub mod Tables
+pub mod ListReads
 pub mod Stages
 pub mod OneAnswer
 pub mod OneReading
+pub mod FirstBeside
 pub mod FirstEdges
 pub mod LinesFew
+pub mod PlacedForwards
+pub mod Actions
+pub mod ValidForwards
+pub mod Moving
+pub mod ValidSetups

@@ -1,25 +1,31 @@
 //! Configurations: what a text sets up, or the first thing that is wrong with it.
 #![tactic(auto)]
 
+mod change;
+mod claims;
 mod crowd;
-mod document;
 mod domain;
 mod edge;
 mod edge_name;
 mod fault;
+mod forward;
 mod keys;
 mod laws;
+mod moves;
 mod origin;
 mod rule;
 mod setup;
 mod shapes;
 mod spelled;
+mod tables;
 
 pub use edge::{EdgeLine, Edges};
 pub use fault::{SetupCause, SetupFault};
+pub use forward::{ForwardLine, Forwards};
 pub use laws::{
     equal_faults_are_the_same, octets_have_at_most_one_answer, refused_edges_are_the_first,
 };
+pub use moves::{Changes, MoveLine};
 pub use setup::Setup;
 
 #[cfg(test)]
