@@ -63,7 +63,7 @@ same_protos Tcp q e = subst (λ (z : Proto). same_proto Tcp z ≡ true) e refl
 same_protos Udp q e = subst (λ (z : Proto). same_proto Udp z ≡ true) e refl
 same_protos Icmp q e = subst (λ (z : Proto). same_proto Icmp z ≡ true) e refl
 
-all_fail : {A : Type 0} (test : A → Bool) (xs : List A) → ¬ (list_any test xs ≡ true) → (j : ℕ) (d : A) → j < length xs → ¬ (test (get_or xs j d) ≡ true)
+pub all_fail : {A : Type 0} (test : A → Bool) (xs : List A) → ¬ (list_any test xs ≡ true) → (j : ℕ) (d : A) → j < length xs → ¬ (test (get_or xs j d) ≡ true)
 all_fail test [] never j d within pass = omega arith
 all_fail test (x ∷ xs) never zero d within pass = never (ap (λ b. b || list_any test xs) pass)
 all_fail test (x ∷ xs) never (suc j) d within pass = all_fail test xs (λ rest. never (or_right (test x) rest)) j d (omega arith) pass
