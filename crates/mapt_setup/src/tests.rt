@@ -1,5 +1,9 @@
-use super::{Setup, SetupCause, SetupFault};
-use octets::Addr4;
+ghost use Rattle.std.specs.Prelude.{IfOk};
+ghost use Rattle.mapt_setup.specs.Valid.{IsValidSetup};
+
+use super::{Capture, Script, ScriptItem, Setup, SetupCause, SetupFault, Side, captures_fit};
+use octets::{Addr4, Bytes, NoMemory};
+use pcap_files::{Records, Writer, read};
 use rule_book::RuleView;
 use std::alloc::{AllocError, Global};
 use std::test::Fail;
@@ -319,5 +323,423 @@ fn too_many_tables_are_told(rt: HostRuntime) -> Result<(), Fail> {
             0
         )?
     );
+    Ok(())
+}
+
+/// Whether the home's configuration with this line before it is refused for this cause at this place.
+fn refuses(alloc: Global, line: &str, cause: SetupCause, place: u32) -> Result<bool, AllocError> {
+    let mut text = String::from_str(alloc, line)?;
+    text.push_str("\n")?;
+    text.push_str(DOMAIN)?;
+    text.push_str(RULE)?;
+    text.push_str(EDGE)?;
+    Ok(match Setup::read(alloc, text.as_bytes()) {
+        Err(told) => told == SetupFault::Refused(cause, place),
+        Ok(_) => false,
+    })
+}
+
+/// Whether it is with each of these lines.
+fn all_refuse(
+    alloc: Global,
+    lines: &str,
+    cause: SetupCause,
+    place: u32,
+) -> Result<bool, AllocError> {
+    for line in lines.lines() {
+        if !refuses(alloc, line, cause, place)? {
+            return Ok(false);
+        }
+    }
+    Ok(true)
+}
+
+/// A forward whose keys aren't as they should be: each of them missing, of another type, out of its range at
+/// both ends, or unknown.
+const BAD_FORWARDS: &str = r#"forward = 1
+forward = [1]
+forward = {}
+forward = [{ proto = "udp", port = 1232, host = "192.168.1.20", host_port = 8080 }]
+forward = [{ edge = "home", port = 1232, host = "192.168.1.20", host_port = 8080 }]
+forward = [{ edge = "home", proto = "udp", host = "192.168.1.20", host_port = 8080 }]
+forward = [{ edge = "home", proto = "udp", port = 1232, host_port = 8080 }]
+forward = [{ edge = "home", proto = "udp", port = 1232, host = "192.168.1.20" }]
+forward = [{ edge = 1, proto = "udp", port = 1232, host = "192.168.1.20", host_port = 8080 }]
+forward = [{ edge = "home", proto = 17, port = 1232, host = "192.168.1.20", host_port = 8080 }]
+forward = [{ edge = "home", proto = "sctp", port = 1232, host = "192.168.1.20", host_port = 8080 }]
+forward = [{ edge = "home", proto = "udp", port = "1232", host = "192.168.1.20", host_port = 8080 }]
+forward = [{ edge = "home", proto = "udp", port = -1, host = "192.168.1.20", host_port = 8080 }]
+forward = [{ edge = "home", proto = "udp", port = 65536, host = "192.168.1.20", host_port = 8080 }]
+forward = [{ edge = "home", proto = "udp", port = 1232, host = 1, host_port = 8080 }]
+forward = [{ edge = "home", proto = "udp", port = 1232, host = "192.168.1.256", host_port = 8080 }]
+forward = [{ edge = "home", proto = "udp", port = 1232, host = "192.168.1.20", host_port = 8080.0 }]
+forward = [{ edge = "home", proto = "udp", port = 1232, host = "192.168.1.20", host_port = -1 }]
+forward = [{ edge = "home", proto = "udp", port = 1232, host = "192.168.1.20", host_port = 65536 }]
+forward = [{ edge = "home", proto = "udp", port = 1232, host = "192.168.1.20", host_port = 8080, until = -1 }]
+forward = [{ edge = "home", proto = "udp", port = 1232, host = "192.168.1.20", host_port = 8080, until = 4611686018427387904 }]
+forward = [{ edge = "home", proto = "udp", port = 1232, host = "192.168.1.20", host_port = 8080, until = "1" }]
+forward = [{ edge = "home", proto = "udp", port = 1232, host = "192.168.1.20", host_port = 8080, live = true }]"#;
+
+/// The same of a change.
+const BAD_CHANGES: &str = r#"change = 1
+change = [1]
+change = {}
+change = [{ action = "remove", prefix6 = "2001:db8::/40" }]
+change = [{ at = "0", action = "remove", prefix6 = "2001:db8::/40" }]
+change = [{ at = -1, action = "remove", prefix6 = "2001:db8::/40" }]
+change = [{ at = 4503599627370496, action = "remove", prefix6 = "2001:db8::/40" }]
+change = [{ at = 0, prefix6 = "2001:db8::/40" }]
+change = [{ at = 0, action = 1, prefix6 = "2001:db8::/40" }]
+change = [{ at = 0, action = "drop", prefix6 = "2001:db8::/40" }]
+change = [{ at = 0, action = "remove", live = 1, prefix6 = "2001:db8::/40" }]
+change = [{ at = 0, action = "remove" }]
+change = [{ at = 0, action = "remove", prefix6 = 1 }]
+change = [{ at = 0, action = "remove", prefix6 = "2001:db8::1/40" }]
+change = [{ at = 0, action = "remove", prefix6 = "2001:db8::/40", rule = { prefix6 = "2001:db8:100::/40", prefix4 = "203.0.113.0/24", ea = 16 } }]
+change = [{ at = 0, action = "remove", prefix6 = "2001:db8::/40", until = 1 }]
+change = [{ at = 0, action = "add" }]
+change = [{ at = 0, action = "add", rule = 1 }]
+change = [{ at = 0, action = "add", rule = [{ prefix6 = "2001:db8:100::/40", prefix4 = "203.0.113.0/24", ea = 16 }] }]
+change = [{ at = 0, action = "add", rule = { prefix6 = "2001:db8:100::/40", prefix4 = "203.0.113.0/24" } }]
+change = [{ at = 0, action = "add", rule = { prefix6 = "2001:db8:100::/40", prefix4 = "203.0.113.0/24", ea = 256 } }]
+change = [{ at = 0, action = "add", rule = { prefix6 = "2001:db8:100::/40", prefix4 = "203.0.113.0/24", ea = 16, at = 0 } }]
+change = [{ at = 0, action = "add", prefix6 = "2001:db8::/40", rule = { prefix6 = "2001:db8:100::/40", prefix4 = "203.0.113.0/24", ea = 16 } }]
+change = [{ at = 0, action = "replace", prefix6 = "2001:db8::/40" }]
+change = [{ at = 0, action = "replace", rule = { prefix6 = "2001:db8:100::/40", prefix4 = "203.0.113.0/24", ea = 16 } }]
+change = [{ at = 0, action = "replace", prefix6 = "2001:db8::1/40", rule = { prefix6 = "2001:db8:100::/40", prefix4 = "203.0.113.0/24", ea = 16 } }]"#;
+
+#[test]
+fn keys_of_forwards_and_changes_are_judged(rt: HostRuntime) -> Result<(), Fail> {
+    let alloc = rt.alloc();
+    assert!(rt; all_refuse(alloc, BAD_FORWARDS, SetupCause::BadForward, 0)?);
+    assert!(rt; all_refuse(alloc, BAD_CHANGES, SetupCause::BadChange, 0)?);
+    Ok(())
+}
+
+/// Names that no edge has, one that no edge may have among them.
+const NO_EDGE: &str =
+    r#"forward = [{ edge = "shed", proto = "udp", port = 1232, host = "192.168.1.20", host_port = 8080 }]
+forward = [{ edge = "", proto = "udp", port = 1232, host = "192.168.1.20", host_port = 8080 }]
+forward = [{ edge = "No Name", proto = "udp", port = 0, host = "192.168.1.20", host_port = 8080 }]"#;
+
+/// Ports that the home may not claim: 0, the last one, and those beside its own.
+const NO_PORT: &str =
+    r#"forward = [{ edge = "home", proto = "udp", port = 0, host = "192.168.1.20", host_port = 8080 }]
+forward = [{ edge = "home", proto = "udp", port = 1231, host = "192.168.1.20", host_port = 8080 }]
+forward = [{ edge = "home", proto = "udp", port = 1236, host = "192.168.1.20", host_port = 8080 }]
+forward = [{ edge = "home", proto = "udp", port = 65535, host = "192.168.1.20", host_port = 8080 }]"#;
+
+/// The second forward has the port of the first, or its host's end.
+const TWICE: &str =
+    r#"forward = [{ edge = "home", proto = "udp", port = 1232, host = "192.168.1.20", host_port = 8080 }, { edge = "home", proto = "udp", port = 1232, host = "192.168.1.21", host_port = 80 }]
+forward = [{ edge = "home", proto = "tcp", port = 1232, host = "192.168.1.20", host_port = 8080 }, { edge = "home", proto = "tcp", port = 1233, host = "192.168.1.20", host_port = 8080 }]"#;
+
+/// The second change comes before the first.
+const EARLY: &str =
+    r#"change = [{ at = 5, action = "remove", prefix6 = "2001:db8::/40" }, { at = 4, action = "remove", prefix6 = "2001:db8::/40" }]
+change = [{ at = 5, action = "remove", prefix6 = "2001:db8:100::/40" }, { at = 4, action = "remove", prefix6 = "2001:db8::/40" }]"#;
+
+/// The rules refuse the first change: its rule breaks a shape rule, stands already, or overlaps in IPv4, in IPv6,
+/// or the default mapping rule; or no rule has the prefix.
+const REFUSED: &str =
+    r#"change = [{ at = 0, action = "add", rule = { prefix6 = "2001:db8:100::/40", prefix4 = "203.0.113.0/24", ea = 7 } }]
+change = [{ at = 0, action = "add", rule = { prefix6 = "2001:db8::/40", prefix4 = "192.0.2.0/24", ea = 16 } }]
+change = [{ at = 0, action = "add", rule = { prefix6 = "2001:db8:100::/40", prefix4 = "192.0.2.128/25", ea = 16 } }]
+change = [{ at = 0, action = "add", rule = { prefix6 = "2001:db8:80::/41", prefix4 = "203.0.113.0/24", ea = 16 } }]
+change = [{ at = 0, action = "add", rule = { prefix6 = "2001:db8:ffff::/48", prefix4 = "203.0.113.0/24", ea = 16 } }]
+change = [{ at = 0, action = "remove", prefix6 = "2001:db8::/41" }]
+change = [{ at = 0, action = "replace", prefix6 = "2001:db8:100::/40", rule = { prefix6 = "2001:db8:100::/40", prefix4 = "203.0.113.0/24", ea = 16 } }]"#;
+
+/// The second change is refused by the rules that the first one left.
+const REFUSED_LATER: &str =
+    r#"change = [{ at = 0, action = "remove", prefix6 = "2001:db8::/40" }, { at = 0, action = "remove", prefix6 = "2001:db8::/40" }]
+change = [{ at = 0, live = true, action = "add", rule = { prefix6 = "2001:db8:100::/40", prefix4 = "203.0.113.0/24", ea = 16 } }, { at = 9, action = "add", rule = { prefix6 = "2001:db8:200::/40", prefix4 = "203.0.113.0/25", ea = 16 } }]"#;
+
+#[test]
+fn forwards_and_changes_are_judged_by_edges_and_rules(rt: HostRuntime) -> Result<(), Fail> {
+    let alloc = rt.alloc();
+    assert!(rt; all_refuse(alloc, NO_EDGE, SetupCause::ForwardEdge, 0)?);
+    assert!(rt; all_refuse(alloc, NO_PORT, SetupCause::ForwardPort, 0)?);
+    assert!(rt; all_refuse(alloc, TWICE, SetupCause::ForwardTwice, 1)?);
+    assert!(rt; all_refuse(alloc, EARLY, SetupCause::ChangeOrder, 1)?);
+    assert!(rt; all_refuse(alloc, REFUSED, SetupCause::ChangeRefused, 0)?);
+    assert!(rt; all_refuse(alloc, REFUSED_LATER, SetupCause::ChangeRefused, 1)?);
+    Ok(())
+}
+
+/// A key that is no forward's, a port that isn't claimable at place 0, one that is there twice, and a name that no
+/// edge has.
+const AND_NO_KEY: &str = "forward = [{ edge = \"shed\" }]\nchange = 1";
+
+const AND_NO_EDGE: &str =
+    r#"forward = [{ edge = "home", proto = "udp", port = 0, host = "192.168.1.20", host_port = 8080 }, { edge = "shed", proto = "udp", port = 0, host = "192.168.1.20", host_port = 8080 }]"#;
+
+const AND_NO_PORT: &str =
+    r#"forward = [{ edge = "home", proto = "udp", port = 1232, host = "192.168.1.20", host_port = 8080 }, { edge = "home", proto = "udp", port = 1232, host = "192.168.1.20", host_port = 8080 }, { edge = "home", proto = "udp", port = 1, host = "192.168.1.20", host_port = 8080 }]"#;
+
+/// With a change that is refused behind it.
+const AND_REFUSED: &str = r#"change = [{ at = 0, action = "remove", prefix6 = "2001:db8:1::/48" }]
+forward = [{ edge = "home", proto = "udp", port = 1232, host = "192.168.1.20", host_port = 8080 }, { edge = "home", proto = "udp", port = 1232, host = "192.168.1.20", host_port = 8080 }]"#;
+
+/// A configuration with two faults is refused for the one whose cause comes first.
+#[test]
+fn the_earlier_cause_of_forwards_and_changes_is_told(rt: HostRuntime) -> Result<(), Fail> {
+    let alloc = rt.alloc();
+    assert!(rt; refuses(alloc, AND_NO_KEY, SetupCause::BadForward, 0)?);
+    assert!(rt; refuses(alloc, "change = 1\nedge = 1", SetupCause::NotToml, 0)?);
+    assert!(rt; refuses(alloc, AND_NO_EDGE, SetupCause::ForwardEdge, 1)?);
+    assert!(rt; refuses(alloc, AND_NO_PORT, SetupCause::ForwardPort, 2)?);
+    assert!(rt; refuses(alloc, AND_REFUSED, SetupCause::ForwardTwice, 1)?);
+    let bad_change = "change = [1]\n";
+    assert!(rt; is_refused(alloc, bad_change, ODD, "", SetupCause::BadChange, 0)?);
+    assert!(rt;
+        is_refused(
+            alloc,
+            bad_change,
+            DOMAIN,
+            SHAPELESS,
+            SetupCause::BadChange,
+            0
+        )?
+    );
+    assert!(rt;
+        is_refused(
+            alloc,
+            "forward = 1\n",
+            DOMAIN,
+            "[[edge]]\n",
+            SetupCause::BadEdge,
+            0
+        )?
+    );
+    let no_edge =
+        r#"forward = [{ edge = "home", proto = "udp", port = 0, host = "192.168.1.20", host_port = 1 }]
+"#;
+    assert!(rt; is_refused(alloc, no_edge, DOMAIN, RULE, SetupCause::ForwardEdge, 0)?);
+    assert!(rt;
+        is_refused(
+            alloc,
+            no_edge,
+            DOMAIN,
+            EDGE_OVER_DMR,
+            SetupCause::EdgeOverDmr,
+            0
+        )?
+    );
+    let forwards = many(alloc, "[[forward]]\n", 257)?;
+    let changes = many(alloc, "[[change]]\n", 65)?;
+    assert!(rt;
+        is_refused(
+            alloc,
+            "other = 1\n",
+            forwards.as_str(),
+            "",
+            SetupCause::TooMany,
+            0
+        )?
+    );
+    assert!(rt;
+        is_refused(
+            alloc,
+            "other = 1\n",
+            changes.as_str(),
+            "",
+            SetupCause::TooMany,
+            0
+        )?
+    );
+    let forwards = many(alloc, "[[forward]]\n", 256)?;
+    let changes = many(alloc, "[[change]]\n", 64)?;
+    assert!(rt;
+        is_refused(
+            alloc,
+            DOMAIN,
+            forwards.as_str(),
+            "",
+            SetupCause::BadForward,
+            0
+        )?
+    );
+    assert!(rt;
+        is_refused(
+            alloc,
+            DOMAIN,
+            changes.as_str(),
+            "",
+            SetupCause::BadChange,
+            0
+        )?
+    );
+    Ok(())
+}
+
+/// Three forwards of one port or one host's end that don't meet, at the least and the greatest time, and three
+/// changes.
+const WHOLE: &str = r#"[[forward]]
+edge = "home"
+proto = "udp"
+port = 1232
+host = "192.168.1.20"
+host_port = 0
+until = 0
+
+[[forward]]
+edge = "home"
+proto = "tcp"
+port = 1232
+host = "192.168.1.20"
+host_port = 0
+until = 4611686018427387903
+
+[[forward]]
+edge = "home"
+proto = "icmp"
+port = 64723
+host = "192.168.1.20"
+host_port = 65535
+
+[[change]]
+at = 0
+action = "add"
+live = true
+rule = { prefix6 = "2001:db8:100::/40", prefix4 = "203.0.113.0/24", ea = 16, offset = 4, forward = true }
+
+[[change]]
+at = 10
+action = "replace"
+prefix6 = "2001:db8::/40"
+rule = { prefix6 = "2001:db8:200::/40", prefix4 = "192.0.2.0/24", ea = 8 }
+
+[[change]]
+at = 4503599627370495
+action = "remove"
+prefix6 = "2001:db8:200::/40"
+"#;
+
+/// The home's configuration with these.
+fn whole(alloc: Global) -> Result<Setup, SetupFault>
+    ensures { IfOk result IsValidSetup }
+{
+    let mut text = String::from_str(alloc, DOMAIN)?;
+    text.push_str(RULE)?;
+    text.push_str(EDGE)?;
+    text.push_str(WHOLE)?;
+    Setup::read(alloc, text.as_bytes())
+}
+
+/// Whether the rules of a generation are printed so.
+fn prints(alloc: Global, setup: &Setup, generation: u32, text: &[u8]) -> Result<bool, SetupFault>
+    requires { IsValidSetup setup.now }
+{
+    let book = setup.book(alloc, generation)?;
+    Ok(book.text(alloc)?.as_slice() == text)
+}
+
+#[test]
+fn each_generation_has_its_rules(rt: HostRuntime) -> Result<(), Fail> {
+    let alloc = rt.alloc();
+    let setup = whole(alloc)?;
+    let first =
+        b"dmr 2001:db8:ffff::/64\nrule 2001:db8::/40 192.0.2.0/24 ea 16 offset 6 forward 0\n";
+    assert!(rt; prints(alloc, &setup, 0, first.as_slice())?);
+    let second =
+        b"dmr 2001:db8:ffff::/64\nrule 2001:db8::/40 192.0.2.0/24 ea 16 offset 6 forward 0\nrule 2001:db8:100::/40 203.0.113.0/24 ea 16 offset 4 forward 1\n";
+    assert!(rt; prints(alloc, &setup, 1, second.as_slice())?);
+    let third =
+        b"dmr 2001:db8:ffff::/64\nrule 2001:db8:200::/40 192.0.2.0/24 ea 8 offset 6 forward 0\nrule 2001:db8:100::/40 203.0.113.0/24 ea 16 offset 4 forward 1\n";
+    assert!(rt; prints(alloc, &setup, 2, third.as_slice())?);
+    let fourth =
+        b"dmr 2001:db8:ffff::/64\nrule 2001:db8:100::/40 203.0.113.0/24 ea 16 offset 4 forward 1\n";
+    assert!(rt; prints(alloc, &setup, 3, fourth.as_slice())?);
+    let none = SetupFault::Refused(SetupCause::NoGeneration, 4);
+    assert!(rt; setup.book(alloc, 4).err() == Some(none));
+    Ok(())
+}
+
+#[test]
+fn forwards_are_bindings_of_their_edges(rt: HostRuntime) -> Result<(), Fail> {
+    let setup = whole(rt.alloc())?;
+    let [first, second, third] = setup.forwards.as_slice() else {
+        return Err(Fail::from("there aren't three forwards"));
+    };
+    assert!(rt; first.edge == 0 && first.binding.port == 1232 && first.binding.deadline == 0);
+    assert!(rt; first.binding.kept && !first.binding.live);
+    assert!(rt; second.binding.host == Addr4(0xc0a8_0114) && second.binding.host_port == 0);
+    assert!(rt; second.binding.deadline == 4_611_686_018_427_387_903);
+    assert!(rt;
+        third.binding.host_port == 65_535 && third.binding.deadline == 9_223_372_036_854_775_807
+    );
+    Ok(())
+}
+
+/// A capture of packets of one octet each, at these times.
+fn records(alloc: Global, packets: &[(u32, u8)]) -> Result<Records, Fail> {
+    let mut writer = Writer::new(alloc)?;
+    for (time, octet) in packets {
+        writer.add(u64::from(*time), &[*octet])?;
+    }
+    Ok(read(alloc, writer.as_slice(), 200_000)?)
+}
+
+/// The octet of each record, and the number of each change.
+fn trail(alloc: Global, script: &Script) -> Result<Bytes, NoMemory> {
+    let mut trail = Bytes::new(alloc);
+    for item in script.as_slice() {
+        match item {
+            ScriptItem::Rec { bytes, .. } => trail.extend(bytes.as_slice())?,
+            ScriptItem::Move { number: 1, .. } => trail.push(b'1')?,
+            ScriptItem::Move { number: 2, .. } => trail.push(b'2')?,
+            ScriptItem::Move { .. } => trail.push(b'3')?,
+        }
+    }
+    Ok(trail)
+}
+
+/// The core's capture stands first and its times fall; three captures have a packet at the times of changes.
+#[test]
+fn a_script_is_in_the_order_of_time_and_kind(rt: HostRuntime) -> Result<(), Fail> {
+    let alloc = rt.alloc();
+    let setup = whole(alloc)?;
+    let core = Capture {
+        side: Side::Core,
+        records: records(alloc, &[(10, b'c'), (0, b'd'), (10, b'e')])?,
+    };
+    let access = Capture {
+        side: Side::Access,
+        records: records(alloc, &[(10, b'a'), (11, b'b')])?,
+    };
+    let lan = Capture {
+        side: Side::Lan(0),
+        records: records(alloc, &[(0, b'l'), (10, b'm'), (10, b'n'), (9, b'o')])?,
+    };
+    let captures = [core, access, lan];
+    if !captures_fit(&setup, &captures) {
+        return Err(Fail::from("they don't fit"));
+    }
+    let script = Script::merge(alloc, &setup, &captures)?;
+    assert!(rt; trail(alloc, &script)?.as_slice() == b"1ldo2mnaceb3".as_slice());
+    Ok(())
+}
+
+#[test]
+fn captures_that_do_not_fit(rt: HostRuntime) -> Result<(), Fail> {
+    let alloc = rt.alloc();
+    let setup = whole(alloc)?;
+    let stranger = [Capture {
+        side: Side::Lan(1),
+        records: records(alloc, &[])?,
+    }];
+    assert!(rt; !captures_fit(&setup, &stranger));
+    let twice = [
+        Capture {
+            side: Side::Core,
+            records: records(alloc, &[])?,
+        },
+        Capture {
+            side: Side::Core,
+            records: records(alloc, &[])?,
+        },
+    ];
+    assert!(rt; !captures_fit(&setup, &twice));
     Ok(())
 }
