@@ -326,295 +326,335 @@ fn too_many_tables_are_told(rt: HostRuntime) -> Result<(), Fail> {
     Ok(())
 }
 
-/// Whether the home's configuration with this line before it is refused for this cause at this place.
-fn refuses(alloc: Global, line: &str, cause: SetupCause, place: u32) -> Result<bool, AllocError> {
-    let mut text = String::from_str(alloc, line)?;
-    text.push_str("\n")?;
-    text.push_str(DOMAIN)?;
-    text.push_str(RULE)?;
-    text.push_str(EDGE)?;
-    Ok(match Setup::read(alloc, text.as_bytes()) {
-        Err(told) => told == SetupFault::Refused(cause, place),
-        Ok(_) => false,
-    })
-}
-
-/// Whether it is with each of these lines.
-fn all_refuse(
+/// The home's configuration with these tables behind it is refused for this cause at this place.
+fn home_refuses(
     alloc: Global,
-    lines: &str,
+    first: &str,
+    second: &str,
     cause: SetupCause,
     place: u32,
 ) -> Result<bool, AllocError> {
-    for line in lines.lines() {
-        if !refuses(alloc, line, cause, place)? {
+    let mut text = String::from_str(alloc, RULE)?;
+    text.push_str(EDGE)?;
+    text.push_str(first)?;
+    is_refused(alloc, DOMAIN, text.as_str(), second, cause, place)
+}
+
+/// A list of one table: each of these keys with its value, or with another where it is the one that is named. A
+/// key without a value is left out.
+fn table(
+    alloc: Global,
+    list: &str,
+    keys: &[(&str, &str)],
+    named: &str,
+    other: &str,
+) -> Result<String, AllocError> {
+    let mut text = String::from_str(alloc, "[[")?;
+    text.push_str(list)?;
+    text.push_str("]]\n")?;
+    for (key, kept) in keys {
+        let value = if *key == named { other } else { *kept };
+        if !value.is_empty() {
+            text.push_str(key)?;
+            text.push_str(" = ")?;
+            text.push_str(value)?;
+            text.push_str("\n")?;
+        }
+    }
+    Ok(text)
+}
+
+/// Whether each of these other values makes the home's configuration with such a table refused for this cause.
+fn all_refuse(
+    alloc: Global,
+    list: &str,
+    keys: &[(&str, &str)],
+    others: &[(&str, &str)],
+    cause: SetupCause,
+) -> Result<bool, AllocError> {
+    for (named, other) in others {
+        let text = table(alloc, list, keys, named, other)?;
+        if !home_refuses(alloc, text.as_str(), "", cause, 0)? {
             return Ok(false);
         }
     }
     Ok(true)
 }
 
-/// A forward whose keys aren't as they should be: each of them missing, of another type, out of its range at
-/// both ends, or unknown.
-const BAD_FORWARDS: &str = r#"forward = 1
-forward = [1]
-forward = {}
-forward = [{ proto = "udp", port = 1232, host = "192.168.1.20", host_port = 8080 }]
-forward = [{ edge = "home", port = 1232, host = "192.168.1.20", host_port = 8080 }]
-forward = [{ edge = "home", proto = "udp", host = "192.168.1.20", host_port = 8080 }]
-forward = [{ edge = "home", proto = "udp", port = 1232, host_port = 8080 }]
-forward = [{ edge = "home", proto = "udp", port = 1232, host = "192.168.1.20" }]
-forward = [{ edge = 1, proto = "udp", port = 1232, host = "192.168.1.20", host_port = 8080 }]
-forward = [{ edge = "home", proto = 17, port = 1232, host = "192.168.1.20", host_port = 8080 }]
-forward = [{ edge = "home", proto = "sctp", port = 1232, host = "192.168.1.20", host_port = 8080 }]
-forward = [{ edge = "home", proto = "udp", port = "1232", host = "192.168.1.20", host_port = 8080 }]
-forward = [{ edge = "home", proto = "udp", port = -1, host = "192.168.1.20", host_port = 8080 }]
-forward = [{ edge = "home", proto = "udp", port = 65536, host = "192.168.1.20", host_port = 8080 }]
-forward = [{ edge = "home", proto = "udp", port = 1232, host = 1, host_port = 8080 }]
-forward = [{ edge = "home", proto = "udp", port = 1232, host = "192.168.1.256", host_port = 8080 }]
-forward = [{ edge = "home", proto = "udp", port = 1232, host = "192.168.1.20", host_port = 8080.0 }]
-forward = [{ edge = "home", proto = "udp", port = 1232, host = "192.168.1.20", host_port = -1 }]
-forward = [{ edge = "home", proto = "udp", port = 1232, host = "192.168.1.20", host_port = 65536 }]
-forward = [{ edge = "home", proto = "udp", port = 1232, host = "192.168.1.20", host_port = 8080, until = -1 }]
-forward = [{ edge = "home", proto = "udp", port = 1232, host = "192.168.1.20", host_port = 8080, until = 4611686018427387904 }]
-forward = [{ edge = "home", proto = "udp", port = 1232, host = "192.168.1.20", host_port = 8080, until = "1" }]
-forward = [{ edge = "home", proto = "udp", port = 1232, host = "192.168.1.20", host_port = 8080, live = true }]"#;
+const FORWARD: [(&str, &str); 7] = [
+    ("edge", "\"home\""),
+    ("proto", "\"udp\""),
+    ("port", "1232"),
+    ("host", "\"192.168.1.20\""),
+    ("host_port", "8080"),
+    ("until", ""),
+    ("live", ""),
+];
 
-/// The same of a change.
-const BAD_CHANGES: &str = r#"change = 1
-change = [1]
-change = {}
-change = [{ action = "remove", prefix6 = "2001:db8::/40" }]
-change = [{ at = "0", action = "remove", prefix6 = "2001:db8::/40" }]
-change = [{ at = -1, action = "remove", prefix6 = "2001:db8::/40" }]
-change = [{ at = 4503599627370496, action = "remove", prefix6 = "2001:db8::/40" }]
-change = [{ at = 0, prefix6 = "2001:db8::/40" }]
-change = [{ at = 0, action = 1, prefix6 = "2001:db8::/40" }]
-change = [{ at = 0, action = "drop", prefix6 = "2001:db8::/40" }]
-change = [{ at = 0, action = "remove", live = 1, prefix6 = "2001:db8::/40" }]
-change = [{ at = 0, action = "remove" }]
-change = [{ at = 0, action = "remove", prefix6 = 1 }]
-change = [{ at = 0, action = "remove", prefix6 = "2001:db8::1/40" }]
-change = [{ at = 0, action = "remove", prefix6 = "2001:db8::/40", rule = { prefix6 = "2001:db8:100::/40", prefix4 = "203.0.113.0/24", ea = 16 } }]
-change = [{ at = 0, action = "remove", prefix6 = "2001:db8::/40", until = 1 }]
-change = [{ at = 0, action = "add" }]
-change = [{ at = 0, action = "add", rule = 1 }]
-change = [{ at = 0, action = "add", rule = [{ prefix6 = "2001:db8:100::/40", prefix4 = "203.0.113.0/24", ea = 16 }] }]
-change = [{ at = 0, action = "add", rule = { prefix6 = "2001:db8:100::/40", prefix4 = "203.0.113.0/24" } }]
-change = [{ at = 0, action = "add", rule = { prefix6 = "2001:db8:100::/40", prefix4 = "203.0.113.0/24", ea = 256 } }]
-change = [{ at = 0, action = "add", rule = { prefix6 = "2001:db8:100::/40", prefix4 = "203.0.113.0/24", ea = 16, at = 0 } }]
-change = [{ at = 0, action = "add", prefix6 = "2001:db8::/40", rule = { prefix6 = "2001:db8:100::/40", prefix4 = "203.0.113.0/24", ea = 16 } }]
-change = [{ at = 0, action = "replace", prefix6 = "2001:db8::/40" }]
-change = [{ at = 0, action = "replace", rule = { prefix6 = "2001:db8:100::/40", prefix4 = "203.0.113.0/24", ea = 16 } }]
-change = [{ at = 0, action = "replace", prefix6 = "2001:db8::1/40", rule = { prefix6 = "2001:db8:100::/40", prefix4 = "203.0.113.0/24", ea = 16 } }]"#;
+/// Each key missing, of another type, out of its range at both ends, or unknown.
+const NO_FORWARD: [(&str, &str); 20] = [
+    ("edge", ""),
+    ("edge", "1"),
+    ("proto", ""),
+    ("proto", "17"),
+    ("proto", "\"sctp\""),
+    ("port", ""),
+    ("port", "\"1\""),
+    ("port", "-1"),
+    ("port", "65536"),
+    ("host", ""),
+    ("host", "1"),
+    ("host", "\"192.168.1.256\""),
+    ("host_port", ""),
+    ("host_port", "1.0"),
+    ("host_port", "-1"),
+    ("host_port", "65536"),
+    ("until", "-1"),
+    ("until", "4611686018427387904"),
+    ("until", "\"1\""),
+    ("live", "true"),
+];
+
+/// Names that no edge has, and one that none may have.
+const NO_EDGE: [(&str, &str); 3] = [
+    ("edge", "\"shed\""),
+    ("edge", "\"\""),
+    ("edge", "\"No Name\""),
+];
+
+/// Port 0, the last one, and those beside the home's.
+const NO_PORT: [(&str, &str); 4] = [
+    ("port", "0"),
+    ("port", "1231"),
+    ("port", "1236"),
+    ("port", "65535"),
+];
 
 #[test]
-fn keys_of_forwards_and_changes_are_judged(rt: HostRuntime) -> Result<(), Fail> {
+fn forwards_that_are_none(rt: HostRuntime) -> Result<(), Fail> {
     let alloc = rt.alloc();
-    assert!(rt; all_refuse(alloc, BAD_FORWARDS, SetupCause::BadForward, 0)?);
-    assert!(rt; all_refuse(alloc, BAD_CHANGES, SetupCause::BadChange, 0)?);
+    let bad = SetupCause::BadForward;
+    assert!(rt; all_refuse(alloc, "forward", &FORWARD, &NO_FORWARD, bad)?);
+    assert!(rt;
+        all_refuse(
+            alloc,
+            "forward",
+            &FORWARD,
+            &NO_EDGE,
+            SetupCause::ForwardEdge
+        )?
+    );
+    assert!(rt;
+        all_refuse(
+            alloc,
+            "forward",
+            &FORWARD,
+            &NO_PORT,
+            SetupCause::ForwardPort
+        )?
+    );
+    assert!(rt; is_refused(alloc, "forward = 1\n", DOMAIN, "", bad, 0)?);
+    assert!(rt; is_refused(alloc, "forward = [1]\n", DOMAIN, "", bad, 0)?);
     Ok(())
 }
 
-/// Names that no edge has, one that no edge may have among them.
-const NO_EDGE: &str =
-    r#"forward = [{ edge = "shed", proto = "udp", port = 1232, host = "192.168.1.20", host_port = 8080 }]
-forward = [{ edge = "", proto = "udp", port = 1232, host = "192.168.1.20", host_port = 8080 }]
-forward = [{ edge = "No Name", proto = "udp", port = 0, host = "192.168.1.20", host_port = 8080 }]"#;
+const REMOVE: [(&str, &str); 6] = [
+    ("at", "0"),
+    ("action", "\"remove\""),
+    ("live", ""),
+    ("prefix6", "\"2001:db8::/40\""),
+    ("rule", ""),
+    ("until", ""),
+];
 
-/// Ports that the home may not claim: 0, the last one, and those beside its own.
-const NO_PORT: &str =
-    r#"forward = [{ edge = "home", proto = "udp", port = 0, host = "192.168.1.20", host_port = 8080 }]
-forward = [{ edge = "home", proto = "udp", port = 1231, host = "192.168.1.20", host_port = 8080 }]
-forward = [{ edge = "home", proto = "udp", port = 1236, host = "192.168.1.20", host_port = 8080 }]
-forward = [{ edge = "home", proto = "udp", port = 65535, host = "192.168.1.20", host_port = 8080 }]"#;
+const NO_REMOVE: [(&str, &str); 14] = [
+    ("at", ""),
+    ("at", "\"0\""),
+    ("at", "-1"),
+    ("at", "4503599627370496"),
+    ("action", ""),
+    ("action", "1"),
+    ("action", "\"drop\""),
+    ("action", "\"add\""),
+    ("action", "\"replace\""),
+    ("live", "1"),
+    ("prefix6", ""),
+    ("prefix6", "1"),
+    ("prefix6", "\"2001:db8::1/40\""),
+    ("until", "1"),
+];
 
-/// The second forward has the port of the first, or its host's end.
-const TWICE: &str =
-    r#"forward = [{ edge = "home", proto = "udp", port = 1232, host = "192.168.1.20", host_port = 8080 }, { edge = "home", proto = "udp", port = 1232, host = "192.168.1.21", host_port = 80 }]
-forward = [{ edge = "home", proto = "tcp", port = 1232, host = "192.168.1.20", host_port = 8080 }, { edge = "home", proto = "tcp", port = 1233, host = "192.168.1.20", host_port = 8080 }]"#;
+const ADD: [(&str, &str); 5] = [
+    ("at", "0"),
+    ("action", "\"add\""),
+    ("prefix6", ""),
+    (
+        "rule",
+        "{ prefix6 = \"2001:db8:100::/40\", prefix4 = \"203.0.113.0/24\", ea = 16 }",
+    ),
+    ("live", "true"),
+];
 
-/// The second change comes before the first.
-const EARLY: &str =
-    r#"change = [{ at = 5, action = "remove", prefix6 = "2001:db8::/40" }, { at = 4, action = "remove", prefix6 = "2001:db8::/40" }]
-change = [{ at = 5, action = "remove", prefix6 = "2001:db8:100::/40" }, { at = 4, action = "remove", prefix6 = "2001:db8::/40" }]"#;
+/// Beside the rule an unknown key; no rule, no table, and a rule with a key that isn't as it should be.
+const NO_ADD: [(&str, &str); 7] = [
+    ("prefix6", "\"2001:db8::/40\""),
+    ("action", "\"remove\""),
+    ("action", "\"replace\""),
+    ("rule", ""),
+    ("rule", "1"),
+    ("rule", "{ prefix6 = \"2001:db8:100::/40\", ea = 16 }"),
+    (
+        "rule",
+        "{ prefix6 = \"2001:db8:100::/40\", prefix4 = \"203.0.113.0/24\", ea = 256 }",
+    ),
+];
 
-/// The rules refuse the first change: its rule breaks a shape rule, stands already, or overlaps in IPv4, in IPv6,
-/// or the default mapping rule; or no rule has the prefix.
-const REFUSED: &str =
-    r#"change = [{ at = 0, action = "add", rule = { prefix6 = "2001:db8:100::/40", prefix4 = "203.0.113.0/24", ea = 7 } }]
-change = [{ at = 0, action = "add", rule = { prefix6 = "2001:db8::/40", prefix4 = "192.0.2.0/24", ea = 16 } }]
-change = [{ at = 0, action = "add", rule = { prefix6 = "2001:db8:100::/40", prefix4 = "192.0.2.128/25", ea = 16 } }]
-change = [{ at = 0, action = "add", rule = { prefix6 = "2001:db8:80::/41", prefix4 = "203.0.113.0/24", ea = 16 } }]
-change = [{ at = 0, action = "add", rule = { prefix6 = "2001:db8:ffff::/48", prefix4 = "203.0.113.0/24", ea = 16 } }]
-change = [{ at = 0, action = "remove", prefix6 = "2001:db8::/41" }]
-change = [{ at = 0, action = "replace", prefix6 = "2001:db8:100::/40", rule = { prefix6 = "2001:db8:100::/40", prefix4 = "203.0.113.0/24", ea = 16 } }]"#;
-
-/// The second change is refused by the rules that the first one left.
-const REFUSED_LATER: &str =
-    r#"change = [{ at = 0, action = "remove", prefix6 = "2001:db8::/40" }, { at = 0, action = "remove", prefix6 = "2001:db8::/40" }]
-change = [{ at = 0, live = true, action = "add", rule = { prefix6 = "2001:db8:100::/40", prefix4 = "203.0.113.0/24", ea = 16 } }, { at = 9, action = "add", rule = { prefix6 = "2001:db8:200::/40", prefix4 = "203.0.113.0/25", ea = 16 } }]"#;
+/// A rule that breaks a shape rule, one that stands, and those that overlap it or the default mapping rule.
+const REFUSED_ADD: [(&str, &str); 5] = [
+    (
+        "rule",
+        "{ prefix6 = \"2001:db8:100::/40\", prefix4 = \"203.0.113.0/24\", ea = 7 }",
+    ),
+    (
+        "rule",
+        "{ prefix6 = \"2001:db8::/40\", prefix4 = \"192.0.2.0/24\", ea = 16 }",
+    ),
+    (
+        "rule",
+        "{ prefix6 = \"2001:db8:100::/40\", prefix4 = \"192.0.2.128/25\", ea = 16 }",
+    ),
+    (
+        "rule",
+        "{ prefix6 = \"2001:db8:80::/41\", prefix4 = \"203.0.113.0/24\", ea = 16 }",
+    ),
+    (
+        "rule",
+        "{ prefix6 = \"2001:db8:ffff::/48\", prefix4 = \"203.0.113.0/24\", ea = 16 }",
+    ),
+];
 
 #[test]
-fn forwards_and_changes_are_judged_by_edges_and_rules(rt: HostRuntime) -> Result<(), Fail> {
+fn changes_that_are_none(rt: HostRuntime) -> Result<(), Fail> {
     let alloc = rt.alloc();
-    assert!(rt; all_refuse(alloc, NO_EDGE, SetupCause::ForwardEdge, 0)?);
-    assert!(rt; all_refuse(alloc, NO_PORT, SetupCause::ForwardPort, 0)?);
-    assert!(rt; all_refuse(alloc, TWICE, SetupCause::ForwardTwice, 1)?);
-    assert!(rt; all_refuse(alloc, EARLY, SetupCause::ChangeOrder, 1)?);
-    assert!(rt; all_refuse(alloc, REFUSED, SetupCause::ChangeRefused, 0)?);
-    assert!(rt; all_refuse(alloc, REFUSED_LATER, SetupCause::ChangeRefused, 1)?);
+    let (bad, refused) = (SetupCause::BadChange, SetupCause::ChangeRefused);
+    assert!(rt; all_refuse(alloc, "change", &REMOVE, &NO_REMOVE, bad)?);
+    assert!(rt;
+        all_refuse(
+            alloc,
+            "change",
+            &REMOVE,
+            &[("prefix6", "\"2001:db8::/41\"")],
+            refused
+        )?
+    );
+    assert!(rt; all_refuse(alloc, "change", &ADD, &NO_ADD, bad)?);
+    assert!(rt; all_refuse(alloc, "change", &ADD, &REFUSED_ADD, refused)?);
+    assert!(rt; is_refused(alloc, "change = 1\n", DOMAIN, "", bad, 0)?);
+    assert!(rt; is_refused(alloc, "change = [1]\n", DOMAIN, "", bad, 0)?);
     Ok(())
 }
 
-/// A key that is no forward's, a port that isn't claimable at place 0, one that is there twice, and a name that no
-/// edge has.
-const AND_NO_KEY: &str = "forward = [{ edge = \"shed\" }]\nchange = 1";
+const WEB: &str =
+    "[[forward]]\nedge = \"home\"\nproto = \"udp\"\nport = 1232\nhost = \"192.168.1.20\"\nhost_port = 80\n";
 
-const AND_NO_EDGE: &str =
-    r#"forward = [{ edge = "home", proto = "udp", port = 0, host = "192.168.1.20", host_port = 8080 }, { edge = "shed", proto = "udp", port = 0, host = "192.168.1.20", host_port = 8080 }]"#;
+const SAME_PORT: &str =
+    "[[forward]]\nedge = \"home\"\nproto = \"udp\"\nport = 1232\nhost = \"192.168.1.21\"\nhost_port = 80\n";
 
-const AND_NO_PORT: &str =
-    r#"forward = [{ edge = "home", proto = "udp", port = 1232, host = "192.168.1.20", host_port = 8080 }, { edge = "home", proto = "udp", port = 1232, host = "192.168.1.20", host_port = 8080 }, { edge = "home", proto = "udp", port = 1, host = "192.168.1.20", host_port = 8080 }]"#;
+const SAME_END: &str =
+    "[[forward]]\nedge = \"home\"\nproto = \"udp\"\nport = 1233\nhost = \"192.168.1.20\"\nhost_port = 80\n";
 
-/// With a change that is refused behind it.
-const AND_REFUSED: &str = r#"change = [{ at = 0, action = "remove", prefix6 = "2001:db8:1::/48" }]
-forward = [{ edge = "home", proto = "udp", port = 1232, host = "192.168.1.20", host_port = 8080 }, { edge = "home", proto = "udp", port = 1232, host = "192.168.1.20", host_port = 8080 }]"#;
+const SHED: &str =
+    "[[forward]]\nedge = \"shed\"\nproto = \"udp\"\nport = 0\nhost = \"192.168.1.20\"\nhost_port = 80\n";
 
-/// A configuration with two faults is refused for the one whose cause comes first.
+const PORT_0: &str =
+    "[[forward]]\nedge = \"home\"\nproto = \"udp\"\nport = 0\nhost = \"192.168.1.20\"\nhost_port = 80\n";
+
+const TAKES: &str = "[[change]]\nat = 5\naction = \"remove\"\nprefix6 = \"2001:db8::/40\"\n";
+
+const TAKES_EARLY: &str = "[[change]]\nat = 4\naction = \"remove\"\nprefix6 = \"2001:db8::/40\"\n";
+
+const TAKES_NONE: &str =
+    "[[change]]\nat = 5\naction = \"remove\"\nprefix6 = \"2001:db8:100::/40\"\n";
+
+/// Two tables at odds, or two faults, of which the one whose cause comes first is told.
 #[test]
-fn the_earlier_cause_of_forwards_and_changes_is_told(rt: HostRuntime) -> Result<(), Fail> {
+fn the_earlier_cause_of_forwards_is_told(rt: HostRuntime) -> Result<(), Fail> {
     let alloc = rt.alloc();
-    assert!(rt; refuses(alloc, AND_NO_KEY, SetupCause::BadForward, 0)?);
-    assert!(rt; refuses(alloc, "change = 1\nedge = 1", SetupCause::NotToml, 0)?);
-    assert!(rt; refuses(alloc, AND_NO_EDGE, SetupCause::ForwardEdge, 1)?);
-    assert!(rt; refuses(alloc, AND_NO_PORT, SetupCause::ForwardPort, 2)?);
-    assert!(rt; refuses(alloc, AND_REFUSED, SetupCause::ForwardTwice, 1)?);
-    let bad_change = "change = [1]\n";
-    assert!(rt; is_refused(alloc, bad_change, ODD, "", SetupCause::BadChange, 0)?);
+    assert!(rt; home_refuses(alloc, WEB, SAME_PORT, SetupCause::ForwardTwice, 1)?);
+    assert!(rt; home_refuses(alloc, WEB, SAME_END, SetupCause::ForwardTwice, 1)?);
+    assert!(rt; home_refuses(alloc, PORT_0, SHED, SetupCause::ForwardEdge, 1)?);
+    assert!(rt; home_refuses(alloc, PORT_0, PORT_0, SetupCause::ForwardPort, 0)?);
+    assert!(rt; home_refuses(alloc, SHED, EDGE_OVER_DMR, SetupCause::EdgeOverDmr, 1)?);
+    assert!(rt; home_refuses(alloc, SHED, "[[forward]]\n", SetupCause::BadForward, 1)?);
+    Ok(())
+}
+
+#[test]
+fn the_earlier_cause_of_changes_is_told(rt: HostRuntime) -> Result<(), Fail> {
+    let alloc = rt.alloc();
+    assert!(rt; home_refuses(alloc, TAKES, TAKES, SetupCause::ChangeRefused, 1)?);
+    assert!(rt; home_refuses(alloc, TAKES, TAKES_EARLY, SetupCause::ChangeOrder, 1)?);
+    assert!(rt; home_refuses(alloc, TAKES_NONE, TAKES_EARLY, SetupCause::ChangeOrder, 1)?);
+    assert!(rt; home_refuses(alloc, TAKES_NONE, PORT_0, SetupCause::ForwardPort, 0)?);
     assert!(rt;
-        is_refused(
+        home_refuses(
             alloc,
-            bad_change,
-            DOMAIN,
-            SHAPELESS,
-            SetupCause::BadChange,
-            0
-        )?
-    );
-    assert!(rt;
-        is_refused(
-            alloc,
-            "forward = 1\n",
-            DOMAIN,
-            "[[edge]]\n",
-            SetupCause::BadEdge,
-            0
-        )?
-    );
-    let no_edge =
-        r#"forward = [{ edge = "home", proto = "udp", port = 0, host = "192.168.1.20", host_port = 1 }]
-"#;
-    assert!(rt; is_refused(alloc, no_edge, DOMAIN, RULE, SetupCause::ForwardEdge, 0)?);
-    assert!(rt;
-        is_refused(
-            alloc,
-            no_edge,
-            DOMAIN,
-            EDGE_OVER_DMR,
-            SetupCause::EdgeOverDmr,
-            0
-        )?
-    );
-    let forwards = many(alloc, "[[forward]]\n", 257)?;
-    let changes = many(alloc, "[[change]]\n", 65)?;
-    assert!(rt;
-        is_refused(
-            alloc,
-            "other = 1\n",
-            forwards.as_str(),
-            "",
-            SetupCause::TooMany,
-            0
-        )?
-    );
-    assert!(rt;
-        is_refused(
-            alloc,
-            "other = 1\n",
-            changes.as_str(),
-            "",
-            SetupCause::TooMany,
-            0
-        )?
-    );
-    let forwards = many(alloc, "[[forward]]\n", 256)?;
-    let changes = many(alloc, "[[change]]\n", 64)?;
-    assert!(rt;
-        is_refused(
-            alloc,
-            DOMAIN,
-            forwards.as_str(),
-            "",
+            "[[change]]\n",
+            "[[forward]]\n",
             SetupCause::BadForward,
             0
         )?
     );
+    assert!(rt; is_refused(alloc, ODD, "[[change]]\n", "", SetupCause::BadChange, 0)?);
+    Ok(())
+}
+
+#[test]
+fn too_many_forwards_and_changes_are_told(rt: HostRuntime) -> Result<(), Fail> {
+    let alloc = rt.alloc();
+    let (forward, change) = ("[[forward]]\n", "[[change]]\n");
+    let most = many(alloc, forward, 256)?;
+    assert!(rt; is_refused(alloc, DOMAIN, most.as_str(), "", SetupCause::BadForward, 0)?);
     assert!(rt;
         is_refused(
             alloc,
-            DOMAIN,
-            changes.as_str(),
-            "",
-            SetupCause::BadChange,
+            "x = 1\n",
+            most.as_str(),
+            forward,
+            SetupCause::TooMany,
+            0
+        )?
+    );
+    let most = many(alloc, change, 64)?;
+    assert!(rt; is_refused(alloc, DOMAIN, most.as_str(), "", SetupCause::BadChange, 0)?);
+    assert!(rt;
+        is_refused(
+            alloc,
+            "x = 1\n",
+            most.as_str(),
+            change,
+            SetupCause::TooMany,
             0
         )?
     );
     Ok(())
 }
 
-/// Three forwards of one port or one host's end that don't meet, at the least and the greatest time, and three
-/// changes.
-const WHOLE: &str = r#"[[forward]]
-edge = "home"
-proto = "udp"
-port = 1232
-host = "192.168.1.20"
-host_port = 0
-until = 0
+/// Forwards at the least and the greatest times and ports, two of one port and one host's end in two protocols.
+const FORWARDS: &str =
+    "[[forward]]\nedge = \"home\"\nproto = \"udp\"\nport = 1232\nhost = \"192.168.1.20\"\nhost_port = 0\nuntil = 0\n[[forward]]\nedge = \"home\"\nproto = \"tcp\"\nport = 1232\nhost = \"192.168.1.20\"\nhost_port = 0\nuntil = 4611686018427387903\n";
 
-[[forward]]
-edge = "home"
-proto = "tcp"
-port = 1232
-host = "192.168.1.20"
-host_port = 0
-until = 4611686018427387903
+const PING: &str =
+    "[[forward]]\nedge = \"home\"\nproto = \"icmp\"\nport = 64723\nhost = \"192.168.1.20\"\nhost_port = 65535\n";
 
-[[forward]]
-edge = "home"
-proto = "icmp"
-port = 64723
-host = "192.168.1.20"
-host_port = 65535
+const ADDS: &str =
+    "[[change]]\nat = 0\naction = \"add\"\nlive = true\nrule = { prefix6 = \"2001:db8:100::/40\", prefix4 = \"203.0.113.0/24\", ea = 16, offset = 4, forward = true }\n";
 
-[[change]]
-at = 0
-action = "add"
-live = true
-rule = { prefix6 = "2001:db8:100::/40", prefix4 = "203.0.113.0/24", ea = 16, offset = 4, forward = true }
+const REPLACES: &str =
+    "[[change]]\nat = 10\naction = \"replace\"\nprefix6 = \"2001:db8::/40\"\nrule = { prefix6 = \"2001:db8:200::/40\", prefix4 = \"192.0.2.0/24\", ea = 8 }\n";
 
-[[change]]
-at = 10
-action = "replace"
-prefix6 = "2001:db8::/40"
-rule = { prefix6 = "2001:db8:200::/40", prefix4 = "192.0.2.0/24", ea = 8 }
-
-[[change]]
-at = 4503599627370495
-action = "remove"
-prefix6 = "2001:db8:200::/40"
-"#;
+const REMOVES: &str =
+    "[[change]]\nat = 4503599627370495\naction = \"remove\"\nprefix6 = \"2001:db8:200::/40\"\n";
 
 /// The home's configuration with these.
 fn whole(alloc: Global) -> Result<Setup, SetupFault>
@@ -623,7 +663,11 @@ fn whole(alloc: Global) -> Result<Setup, SetupFault>
     let mut text = String::from_str(alloc, DOMAIN)?;
     text.push_str(RULE)?;
     text.push_str(EDGE)?;
-    text.push_str(WHOLE)?;
+    text.push_str(FORWARDS)?;
+    text.push_str(PING)?;
+    text.push_str(ADDS)?;
+    text.push_str(REPLACES)?;
+    text.push_str(REMOVES)?;
     Setup::read(alloc, text.as_bytes())
 }
 
