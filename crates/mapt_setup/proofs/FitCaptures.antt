@@ -9,7 +9,7 @@ use Rattle.pcap_files.specs.Written.{IsWritable}
 use Rattle.mapt_setup.specs.declared.capture.Capture.{Capture}
 use Rattle.mapt_setup.specs.declared.setup.Setup.{Setup}
 use Rattle.mapt_setup.specs.Beside.{first_after, FailsBefore}
-use Rattle.mapt_setup.specs.Fit.{is_side_of, same_side, has_side_of, records_count, most_records, is_writable, fits, FitsSetup}
+use Rattle.mapt_setup.specs.Fit.{is_side_of, same_side, has_side_of, records_count, most_records, is_writable, is_fitting, FitsSetup}
 use Rattle.mapt_setup.proofs.FirstBeside.{none-is, is-none}
 use Rattle.mapt_setup.proofs.ValidForwards.{all_fail}
 
@@ -69,7 +69,7 @@ pairs_once captures pairs = is-none has_side_of captures (first_after has_side_o
     pairs_at i j e d before within found = pairs i j d before within (ap (λ (c : Capture). same_side c.side (get_or captures j d).side) (get_or_default captures i d e (omega arith)) ∙ found)
 
 pub fits_exactly : (setup : Setup) (captures : List Capture)
-    → IsTrue (fits setup captures) ↔ FitsSetup setup captures
+    → IsTrue (is_fitting setup captures) ↔ FitsSetup setup captures
 fits_exactly setup captures = (
   λ e.
       let a = and_parts _ _ e in

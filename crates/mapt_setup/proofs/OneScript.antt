@@ -1,5 +1,5 @@
 -- Two lists in one order whose ties stand alike are the same, so a script is one.
-use Rattle.std.proofs.Common.{◌≡◌, ℕ, zero, suc, ◌+◌, ◌<◌, ◌≤◌, Bool, true, false, cond, List, [], ◌∷◌, map, length, get_or, refl, sym, ap, subst, ◌∙◌, arith, ◌⊎◌, inl, inr}
+use Rattle.std.proofs.Common.{◌≡◌, ℕ, zero, suc, ◌+◌, ◌<◌, ◌≤◌, Bool, true, false, cond, List, [], ◌∷◌, length, get_or, refl, sym, ap, subst, ◌∙◌, arith, ◌⊎◌, inl, inr}
 use Rattle.std.specs.Prelude.{not, ◌&&◌}
 use Rattle.std.specs.List.{filter}
 use Rattle.std.specs.List.Sorted.{IsSortedBy, ties}
@@ -9,9 +9,8 @@ use Rattle.std.proofs.lemmas.Bool.{false≢true}
 use Rattle.std.proofs.lemmas.List.Sorted.{sorted_far}
 use Rattle.mapt_setup.specs.declared.capture.Capture.{Capture}
 use Rattle.mapt_setup.specs.declared.moves.MoveLine.{MoveLine}
-use Rattle.mapt_setup.specs.declared.placed.Placed.{Placed}
 use Rattle.mapt_setup.specs.declared.script.ScriptItem.{ScriptItem}
-use Rattle.mapt_setup.specs.Script.{order, all_placed, IsScript}
+use Rattle.mapt_setup.specs.Script.{order, IsScript}
 use Rattle.mapt_setup.proofs.Ordering.{order_ranks}
 
 either : (b : Bool) → (b ≡ true) ⊎ (b ≡ false)
@@ -111,6 +110,6 @@ one_order lt o (x ∷ xs) (y ∷ ys) up_x up_y alike =
 
 pub one_script : (changes : List MoveLine) (captures : List Capture) (one other : List ScriptItem) → IsScript changes captures one → IsScript changes captures other → one ≡ other
 one_script changes captures one other h g =
-    let lt : Placed → Placed → Bool = λ p q. is_lt (order p q) in
-    let alike : TieAlike lt h.placed g.placed = record { at = λ x. h.stable x ∙ sym (g.stable x) } in
-    h.items_are ∙ ap (λ (ps : List Placed). map (λ (p : Placed). p.item) ps) (one_order lt order_ranks h.placed g.placed h.sorted g.sorted alike) ∙ sym g.items_are
+    let lt : ScriptItem → ScriptItem → Bool = λ x y. is_lt (order changes x y) in
+    let alike : TieAlike lt one other = record { at = λ x. h.stable x ∙ sym (g.stable x) } in
+    one_order lt (order_ranks changes) one other h.sorted g.sorted alike

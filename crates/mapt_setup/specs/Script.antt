@@ -1,7 +1,8 @@
 -- The script of a setup and its captures: all changes and all records in one list, by time; of one time changes
 -- before records, and of these the LANs in the order of the edges, the access network and the core; and of one
 -- file by their place in it.
-use Rattle.std.specs.Prelude.{◌≡◌, ℕ, suc, Bool, true, false, List, [], ◌∷◌, ◌++◌, map, take, if◌then◌else◌}
+use Rattle.std.specs.Prelude.{ℕ, ◌-◌, suc, slice_get, Bool, true, false, List, [], ◌∷◌, ◌++◌, map, take, if◌then◌else◌}
+use Rattle.std.specs.Option.{option_map_or}
 use Rattle.std.specs.List.{flat_map, count_by}
 use Rattle.std.specs.List.Sorted.{IsPermutation, IsSorted, IsStable}
 use Rattle.std.specs.Ordering.{nat_cmp, ordering_then}
@@ -12,7 +13,6 @@ use Rattle.mapt_setup.specs.declared.capture.Side.TheVariants.{Lan, Access, Core
 use Rattle.mapt_setup.specs.declared.capture.Capture.{Capture}
 use Rattle.mapt_setup.specs.declared.script.ScriptItem.{ScriptItem}
 use Rattle.mapt_setup.specs.declared.script.ScriptItem.TheVariants.{Rec, Move}
-use Rattle.mapt_setup.specs.declared.placed.Placed.{Placed}
 use Rattle.mapt_setup.specs.declared.moves.MoveLine.{MoveLine}
 use Rattle.mapt_setup.specs.declared.setup.Setup.{Setup}
 use Rattle.mapt_setup.specs.Fit.{FitsSetup}
@@ -29,36 +29,50 @@ edge_of (Lan edge) = edge
 edge_of Access = 0
 edge_of Core = 0
 
--- the changes in their order, numbered from some number on
-abbrev pub moves_placed : ℕ → List MoveLine → List Placed
-moves_placed number [] = []
-moves_placed number (move ∷ moves) =
-    record { time = move.at; kind = 0; edge = 0; item = Move number move.live } ∷ moves_placed (suc number) moves
+-- the kind and the edge of an item: changes stand first
+abbrev pub item_kind : ScriptItem → ℕ
+item_kind (Rec side time bytes) = kind_of side
+item_kind (Move number live) = 0
 
--- the records of a capture in their order
-abbrev pub records_placed : Side → List Record → List Placed
-records_placed side [] = []
-records_placed side (r ∷ records) =
-    record { time = r.time; kind = kind_of side; edge = edge_of side; item = Rec side r.time r.bytes } ∷ records_placed side records
+abbrev pub item_edge : ScriptItem → ℕ
+item_edge (Rec side time bytes) = edge_of side
+item_edge (Move number live) = 0
 
-abbrev pub captures_placed : List Capture → List Placed
-captures_placed captures = flat_map (λ c. records_placed c.side c.records) captures
+-- the time of a change, by its number from 1
+abbrev pub change_time : List MoveLine → ℕ → ℕ
+change_time changes number = option_map_or (λ (move : MoveLine). move.at) (slice_get changes (number - 1)) 0
 
--- all changes, numbered from 1, and all records, file by file
-abbrev pub all_placed : List MoveLine → List Capture → List Placed
-all_placed changes captures = moves_placed 1 changes ++ captures_placed captures
+-- the time of an item
+abbrev pub item_time : List MoveLine → ScriptItem → ℕ
+item_time changes (Rec side time bytes) = time
+item_time changes (Move number live) = change_time changes number
 
 -- the order of a script: by time, kind and edge
-abbrev pub order : Placed → Placed → Ordering
-order p q = ordering_then (nat_cmp p.time q.time) (ordering_then (nat_cmp p.kind q.kind) (nat_cmp p.edge q.edge))
+abbrev pub order : List MoveLine → ScriptItem → ScriptItem → Ordering
+order changes x y =
+    ordering_then (nat_cmp (item_time changes x) (item_time changes y)) (ordering_then (nat_cmp (item_kind x) (item_kind y)) (nat_cmp (item_edge x) (item_edge y)))
+
+-- the changes in their order, numbered from some number on
+abbrev pub move_items : ℕ → List MoveLine → List ScriptItem
+move_items number [] = []
+move_items number (move ∷ moves) = Move number move.live ∷ move_items (suc number) moves
+
+-- the records of a capture in their order
+abbrev pub record_items : Side → List Record → List ScriptItem
+record_items side records = map (λ (r : Record). Rec side r.time r.bytes) records
+
+abbrev pub capture_items : List Capture → List ScriptItem
+capture_items captures = flat_map (λ (c : Capture). record_items c.side c.records) captures
+
+-- all changes, numbered from 1, and all records, file by file
+abbrev pub all_items : List MoveLine → List Capture → List ScriptItem
+all_items changes captures = move_items 1 changes ++ capture_items captures
 
 -- these are all changes and all records in that order, and those of one file and one time as they stand there
 pub record IsScript (changes : List MoveLine) (captures : List Capture) (items : List ScriptItem) : Type 0 where
-  pub placed : List Placed
-  pub all : IsPermutation (all_placed changes captures) placed
-  pub sorted : IsSorted order placed
-  pub stable : IsStable order (all_placed changes captures) placed
-  pub items_are : items ≡ map (λ p. p.item) placed
+  pub all : IsPermutation (all_items changes captures) items
+  pub sorted : IsSorted (order changes) items
+  pub stable : IsStable (order changes) (all_items changes captures) items
 
 -- a script belongs to a setup: it is that of the setup's changes and of captures that fit the setup
 pub record BelongsTo (setup : Setup) (items : List ScriptItem) : Type 0 where

@@ -1,7 +1,7 @@
 ghost use Rattle.std.specs.Prelude.{◌≡◌, ◌↔◌, ◌<◌, IsTrue, nat_le, is_none, length, IfSome};
 ghost use Rattle.std.specs.List.{list_all};
 ghost use Rattle.mapt_setup.specs.Beside.{first_after};
-ghost use Rattle.mapt_setup.specs.Fit.{is_side_of, same_side, has_side_of, records_count, most_records, is_writable, fits, FitsSetup};
+ghost use Rattle.mapt_setup.specs.Fit.{is_side_of, same_side, has_side_of, records_count, most_records, is_writable, is_fitting, FitsSetup};
 
 use crate::setup::Setup;
 use pcap_files::{Record, Records};
@@ -124,7 +124,7 @@ fn are_all_writable(captures: &[Capture]) -> bool
 
 /// Whether captures pass the tests of those that fit a setup.
 fn passes(setup: &Setup, captures: &[Capture]) -> bool
-    ensures { result ≡ fits setup.now captures.now }
+    ensures { result ≡ is_fitting setup.now captures.now }
 {
     are_sides_of(setup, captures)
         && first_again(captures).is_none()

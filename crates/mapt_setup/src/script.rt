@@ -1,10 +1,10 @@
-ghost use Rattle.std.specs.Prelude.{◌≡◌, map, IfOk};
+ghost use Rattle.std.specs.Prelude.{◌≡◌, IfOk};
 ghost use Rattle.mapt_setup.specs.Fit.{FitsSetup};
 ghost use Rattle.mapt_setup.specs.Script.{IsScript, BelongsTo};
 ghost use Rattle.mapt_setup.specs.Valid.{IsValidSetup};
 
 use crate::capture::{Capture, Side};
-use crate::placed::{Placed, in_order};
+use crate::items::in_order;
 use crate::setup::Setup;
 use octets::{Bytes, NoMemory};
 use std::alloc::Global;
@@ -34,17 +34,6 @@ impl Model for Script {
     ghost view = { λ s. s.items.items };
 }
 
-/// The items alone.
-fn items_of(alloc: Global, placed: Vec<Placed>) -> Result<Vec<ScriptItem>, NoMemory>
-    ensures { IfOk result (λ items. items.items ≡ map (λ p. p.item) placed.items) }
-{
-    let mut items = Vec::with_capacity(alloc, placed.len())?;
-    for one in placed {
-        items.push(one.item)?;
-    }
-    Ok(items)
-}
-
 impl Script {
     /// The script of a setup and its captures.
     pub fn merge(alloc: Global, setup: &Setup, captures: &[Capture]) -> Result<Script, NoMemory>
@@ -53,9 +42,8 @@ impl Script {
         ensures script { IfOk result (IsScript setup.now.changes captures.now) }
         ensures belongs { IfOk result (BelongsTo setup.now) }
     {
-        let placed = in_order(alloc, setup.changes.as_slice(), captures)?;
         Ok(Script {
-            items: items_of(alloc, placed)?,
+            items: in_order(alloc, setup.changes.as_slice(), captures)?,
         })
     }
 
