@@ -1,10 +1,8 @@
 -- The edge that a fault names is the first of which it is true.
-use Rattle.std.proofs.Common.{◌≡◌, ℕ, zero, suc, ◌+◌, ◌<◌, Bool, true, false, cond, List, [], ◌∷◌, ◌++◌, length, get_or, take, refl, sym, ap, subst, ◌∙◌, arith, append_assoc, length-append, ◌⊎◌, inl, inr}
+use Rattle.std.proofs.Common.{◌≡◌, ℕ, ◌<◌, true, List, length, get_or, refl, sym, ap, subst, ◌∙◌, inl, inr}
 use Rattle.std.specs.Prelude.{Option, Some, None, ◌↔◌}
 use Rattle.std.specs.Option.{option_or, option_map}
 use Rattle.std.specs.List.{position}
-use Rattle.std.proofs.lemmas.List.{append-nil}
-use Rattle.std.proofs.lemmas.Option.{none-some, same_Some}
 use Rattle.std.proofs.lemmas.Bool.{false≢true}
 use Rattle.octets.specs.Place.{IsFirstPlace}
 use Rattle.octets.proofs.Places.{position-exactly, position-none}
@@ -16,106 +14,15 @@ use Rattle.mapt_setup.specs.declared.fault.SetupCause.{SetupCause}
 use Rattle.mapt_setup.specs.declared.fault.SetupCause.TheVariants.{EdgeName, EdgeOverlap, EdgeOverDmr}
 use Rattle.mapt_setup.specs.declared.fault.SetupFault.{SetupFault}
 use Rattle.mapt_setup.specs.declared.fault.SetupFault.TheVariants.{Refused}
-use Rattle.mapt_setup.specs.Crowd.{has_name_of, is_crowded, is_over, first_from, first_after, edge_fault}
-use Rattle.mapt_setup.specs.Beside.{FailsBefore, IsFirstBeside, AreApart}
-
-abbrev Test : Type 0
-Test = List EdgeLine → EdgeLine → Bool
-
--- the first among those that follow the earlier ones
-record IsFirstFrom (test : Test) (earlier edges : List EdgeLine) (place : ℕ) : Type 0 where
-  within : place < length edges
-  holds : (d : EdgeLine) → test (earlier ++ take place edges) (get_or edges place d) ≡ true
-  none_before : (k : ℕ) (d : EdgeLine) → k < place → ¬ (test (earlier ++ take k edges) (get_or edges k d) ≡ true)
-
--- the place of the first, and how many stand before it among these
-record Found (test : Test) (earlier edges : List EdgeLine) (place : ℕ) : Type 0 where
-  passed : ℕ
-  place_is : place ≡ length earlier + passed
-  first : IsFirstFrom test earlier edges passed
-
-found-here : (test : Test) (earlier : List EdgeLine) (edge : EdgeLine) (edges : List EdgeLine) (place : ℕ) → test earlier edge ≡ true → length earlier ≡ place → Found test earlier (edge ∷ edges) place
-found-here test earlier edge edges place here same = record {
-  passed = 0;
-  place_is = omega arith;
-  first = record {
-    within = omega arith;
-    holds = λ d. ap (λ xs. test xs edge) (append-nil earlier) ∙ here;
-    none_before = λ k d before. absurd (omega arith);
-  };
-}
-
-found-later : (test : Test) (earlier : List EdgeLine) (edge : EdgeLine) (edges : List EdgeLine) (place : ℕ) → test earlier edge ≡ false → Found test (earlier ++ edge ∷ []) edges place → Found test earlier (edge ∷ edges) place
-found-later test earlier edge edges place other found = record {
-  passed = suc found.passed;
-  place_is = omega (arith, found.place_is, length-append earlier (edge ∷ []));
-  first = record {
-    within = omega (arith, found.first.within);
-    holds = λ d. ap (λ xs. test xs (get_or edges found.passed d)) (sym (append_assoc earlier (edge ∷ []) (take found.passed edges))) ∙ found.first.holds d;
-    none_before = before;
-  };
-}
-  where
-    before : (k : ℕ) (d : EdgeLine) → k < suc found.passed → ¬ (test (earlier ++ take k (edge ∷ edges)) (get_or (edge ∷ edges) k d) ≡ true)
-    before zero d lt same = false≢true (sym other ∙ sym (ap (λ xs. test xs edge) (append-nil earlier)) ∙ same)
-    before (suc k) d lt same =
-        found.first.none_before k d (omega arith) (ap (λ xs. test xs (get_or edges k d)) (append_assoc earlier (edge ∷ []) (take k edges)) ∙ same)
-
-either : (b : Bool) → (b ≡ true) ⊎ (b ≡ false)
-either true = inl refl
-either false = inr refl
-
-found : (test : Test) (earlier edges : List EdgeLine) (place : ℕ) → first_from test earlier edges ≡ Some place → Found test earlier edges place
-found test earlier [] place e = absurd (none-some place e)
-found test earlier (edge ∷ edges) place e =
-    elim (either (test earlier edge)) [
-      | inl here ↦ found-here test earlier edge edges place here (same_Some (length earlier) place (sym (ap (λ b. cond b (Some (length earlier)) (first_from test (earlier ++ edge ∷ []) edges)) here) ∙ e))
-      | inr other ↦ found-later test earlier edge edges place other (found test (earlier ++ edge ∷ []) edges place (sym (ap (λ b. cond b (Some (length earlier)) (first_from test (earlier ++ edge ∷ []) edges)) other) ∙ e))
-    ]
-
-pub first-is : (test : Test) (edges : List EdgeLine) (place : ℕ) → first_after test edges ≡ Some place → IsFirstBeside test edges place
-first-is test edges place e =
-    let f = found test [] edges place e in
-    let same : f.passed ≡ place = omega (arith, f.place_is) in
-    let P : ℕ → Type 0 = λ n. IsFirstBeside test edges n in
-    subst P same (record { within = f.first.within; holds = f.first.holds; none_before = f.first.none_before })
-
--- where none is found there is none
-none_from : (test : Test) (earlier edges : List EdgeLine) → first_from test earlier edges ≡ None → (k : ℕ) (d : EdgeLine) → k < length edges → ¬ (test (earlier ++ take k edges) (get_or edges k d) ≡ true)
-none_from test earlier [] none k d within same = omega arith
-none_from test earlier (edge ∷ edges) none k d within same =
-    elim (either (test earlier edge)) [
-      | inl here ↦ none-some (length earlier) (sym none ∙ ap (λ b. cond b (Some (length earlier)) (first_from test (earlier ++ edge ∷ []) edges)) here)
-      | inr other ↦ at other (sym (ap (λ b. cond b (Some (length earlier)) (first_from test (earlier ++ edge ∷ []) edges)) other) ∙ none) k within same (none_from test (earlier ++ edge ∷ []) edges)
-    ]
-  where
-    at : test earlier edge ≡ false → first_from test (earlier ++ edge ∷ []) edges ≡ None → (k : ℕ) → k < length (edge ∷ edges) → test (earlier ++ take k (edge ∷ edges)) (get_or (edge ∷ edges) k d) ≡ true
-        → (first_from test (earlier ++ edge ∷ []) edges ≡ None → (k : ℕ) (d : EdgeLine) → k < length edges → ¬ (test ((earlier ++ edge ∷ []) ++ take k edges) (get_or edges k d) ≡ true))
-        → ⊥
-    at other none' zero within same ih = false≢true (sym other ∙ sym (ap (λ xs. test xs edge) (append-nil earlier)) ∙ same)
-    at other none' (suc k) within same ih =
-        ih none' k d (omega arith) (ap (λ xs. test xs (get_or edges k d)) (append_assoc earlier (edge ∷ []) (take k edges)) ∙ same)
-
-none-is : (test : Test) (edges : List EdgeLine) → first_after test edges ≡ None → FailsBefore test edges (length edges)
-none-is test edges none k d within = none_from test [] edges none k d within
-
--- a list with a place has an edge
-edge-at : (edges : List EdgeLine) (place : ℕ) → place < length edges → EdgeLine
-edge-at [] place within = absurd (omega arith)
-edge-at (edge ∷ edges) place within = edge
-
-is-none : (test : Test) (edges : List EdgeLine) (o : Option ℕ) → first_after test edges ≡ o → FailsBefore test edges (length edges) → o ≡ None
-is-none test edges None e fails = refl
-is-none test edges (Some place) e fails =
-    let first = first-is test edges place e in
-    let d = edge-at edges place first.within in
-    absurd (fails place d first.within (first.holds d))
+use Rattle.mapt_setup.specs.Beside.{first_after, FailsBefore, IsFirstBeside}
+use Rattle.mapt_setup.specs.Crowd.{has_name_of, is_crowded, is_over, edge_fault, AreApart}
+use Rattle.mapt_setup.proofs.FirstBeside.{first-is, none-is, is-none, element-at}
 
 over-none : (dmr : Dmr) (edges : List EdgeLine) (o : Option ℕ) → position (is_over dmr) edges ≡ o → ((k : ℕ) (d : EdgeLine) → k < length edges → ¬ (is_over dmr (get_or edges k d) ≡ true)) → o ≡ None
 over-none dmr edges None e fails = refl
 over-none dmr edges (Some place) e fails =
     let first = (position-exactly (is_over dmr) edges place).0 e in
-    let d = edge-at edges place first.within in
+    let d = element-at edges place first.within in
     absurd (fails place d first.within (first.passes d))
 
 -- ---- the faults in their order
@@ -129,7 +36,7 @@ crowded edges = option_map (Refused EdgeOverlap) (first_after is_crowded edges)
 abbrev over : List EdgeLine → Dmr → Option SetupFault
 over edges dmr = option_map (Refused EdgeOverDmr) (position (is_over dmr) edges)
 
-place-of : (cause : SetupCause) (i j : ℕ) → Refused cause i ≡ Refused cause j → i ≡ j
+pub place-of : (cause : SetupCause) (i j : ℕ) → Refused cause i ≡ Refused cause j → i ≡ j
 place-of cause i j e = cc
 
 -- a fault of one cause isn't of another
@@ -181,7 +88,7 @@ over-first edges dmr i e =
       ]
     ]
 
-both_none : {A : Type 0} (a b : Option A) → option_or a b ≡ None → (a ≡ None) × (b ≡ None)
+pub both_none : {A : Type 0} (a b : Option A) → option_or a b ≡ None → (a ≡ None) × (b ≡ None)
 both_none None b e = (refl, e)
 both_none (Some x) b e = cc
 

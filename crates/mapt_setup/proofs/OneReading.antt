@@ -1,5 +1,5 @@
 -- What a configuration says is read in one way.
-use Rattle.std.proofs.Common.{◌≡◌, ◌+◌, ◌-◌, ℕ, List, codes, false, Option, Some, None, Err, refl, sym, subst, ◌∙◌, Ok, Result, ap, inl, inr, length}
+use Rattle.std.proofs.Common.{◌≡◌, ◌+◌, ◌-◌, ℕ, suc, List, [], ◌∷◌, codes, false, Option, Some, None, Err, refl, sym, subst, ◌∙◌, Ok, Result, ap, inl, inr, length}
 use mathlib.Core.HLevel.{is_prop→PathP}
 use Rattle.std.proofs.lemmas.Bool.{false≢true, le-leb}
 use Rattle.std.proofs.lemmas.Option.{same_Some}
@@ -18,9 +18,25 @@ use Rattle.rule_book.specs.declared.book.Book.{Book}
 use Rattle.rule_book.specs.Valid.{IsValid}
 use Rattle.mapt_setup.specs.Shapes.{HasParts, BreaksShape, IsFirstBook, book_of}
 use Rattle.mapt_setup.specs.Crowd.{edge_fault}
-use Rattle.mapt_setup.specs.Setup.{IsDocument, early_fault, listed, document_setup, setup_of}
+use Rattle.mapt_setup.specs.Tables.{IsDocument, early_fault, listed, tables_of}
+use Rattle.mapt_setup.specs.Setup.{first_book, tables_setup, document_setup, setup_of}
+use Rattle.nat_model.specs.declared.binding.Binding.{Binding}
+use Rattle.mapt_setup.specs.declared.change.Action.{Action}
+use Rattle.mapt_setup.specs.declared.change.Action.TheVariants as action
+use Rattle.mapt_setup.specs.declared.change.ChangeText.{ChangeText}
+use Rattle.mapt_setup.specs.declared.forward.ForwardText.{ForwardText}
+use Rattle.mapt_setup.specs.declared.forward.ForwardLine.{ForwardLine}
+use Rattle.mapt_setup.specs.declared.tables.Tables.{Tables}
+use Rattle.rule_book.specs.Book.{rules_of, dmr_of}
+use Rattle.rule_book.specs.Change.{rules_after}
+use Rattle.mapt_setup.specs.Forward.{proto_at, HasBinding, IsForwardTable, IsForward, most_until, never}
+use Rattle.mapt_setup.specs.Change.{verb_at, HasRule, HasAction, IsChangeTable, IsChange, most_at}
+use Rattle.mapt_setup.specs.Claims.{edge_place, IsAtEdge, forward_fault, forwards_of}
+use Rattle.mapt_setup.specs.Moves.{order_fault, IsMove, moves_from, changes_of}
+use Rattle.mapt_setup.proofs.Moving.{one_move}
+use Rattle.mapt_setup.proofs.Actions.{add≢remove, add≢replace, remove≢replace}
 use Rattle.mapt_setup.specs.declared.fault.SetupCause.{SetupCause}
-use Rattle.mapt_setup.specs.declared.fault.SetupCause.TheVariants.{NotToml, BadDomain, BadRule, BadEdge, RuleShape}
+use Rattle.mapt_setup.specs.declared.fault.SetupCause.TheVariants.{NotToml, BadDomain, BadRule, BadEdge, BadForward, BadChange, RuleShape, ForwardEdge, ChangeRefused}
 use Rattle.mapt_setup.specs.declared.fault.SetupFault.TheVariants.{Refused}
 use Rattle.toml.specs.Parse.{parse_document}
 use Rattle.std.proofs.Props.{props}
@@ -280,6 +296,81 @@ one_book rules dmr b c h g =
 pub one_book_of : (rules : List Rule) (dmr : Dmr) → IsOne (book_of rules dmr)
 one_book_of rules dmr = barring_one _ (such (IsFirstBook rules dmr)) (such_one (IsFirstBook rules dmr) (one_book rules dmr))
 
+-- ---- forwards and changes
+
+one_binding : (ms : Members) (x y : Binding) → HasBinding ms x → HasBinding ms y → x ≡ y
+one_binding ms x y h g =
+    let proto = once (proto_at (codes "proto") ms) x.proto y.proto h.proto g.proto in
+    let host = one_addr (codes "host") ms x.host y.host h.host g.host in
+    let host_port = once (number_at (codes "host_port") 0 65535 ms) x.host_port y.host_port h.host_port g.host_port in
+    let port = once (number_at (codes "port") 0 65535 ms) x.port y.port h.port g.port in
+    let deadline = once (number_or never (codes "until") most_until ms) x.deadline y.deadline h.deadline g.deadline in
+    let live = h.live ∙ sym g.live in
+    let kept = h.kept ∙ sym g.kept in
+    λ i. record { proto = proto i; host = host i; host_port = host_port i; port = port i; deadline = deadline i; live = live i; kept = kept i }
+
+one_forward_table : (ms : Members) (x y : ForwardText) → IsForwardTable ms x → IsForwardTable ms y → x ≡ y
+one_forward_table ms x y h g =
+    let edge = once (text_at (codes "edge") ms) x.edge y.edge h.edge g.edge in
+    let binding = one_binding ms x.binding y.binding h.binding g.binding in
+    λ i. record { edge = edge i; binding = binding i }
+
+pub one_forward : AreOne IsForward (HasNone IsForward)
+one_forward = record { one = of_one_table IsForwardTable one_forward_table; none = λ d x is no. no x is }
+
+one_inner_rule : (ms : Members) (x y : RuleLine) → HasRule ms x → HasRule ms y → x ≡ y
+one_inner_rule ms x y h g =
+    let same = once (get_member (codes "rule") ms) h.value g.value h.there g.there in
+    one_rule.one g.value x y (subst (λ (d : Data). IsRule d x) same h.says) g.says
+
+one_action : (ms : Members) (x y : Action) → HasAction ms x → HasAction ms y → x ≡ y
+one_action ms (action.Add x) (action.Add y) h g = ap (λ (z : RuleLine). action.Add z) (one_inner_rule ms x y h.rule g.rule)
+one_action ms (action.Remove p) (action.Remove q) h g = ap (λ (z : Prefix6). action.Remove z) (one_prefix (codes "prefix6") ms p q h.prefix g.prefix)
+one_action ms (action.Replace p x) (action.Replace q y) h g =
+    ap (λ (z : Prefix6). action.Replace z x) (one_prefix (codes "prefix6") ms p q h.prefix g.prefix) ∙ ap (λ (z : RuleLine). action.Replace q z) (one_inner_rule ms x y h.rule g.rule)
+one_action ms (action.Add x) (action.Remove q) h g = absurd (add≢remove (once (verb_at ms) _ _ h.word g.word))
+one_action ms (action.Add x) (action.Replace q y) h g = absurd (add≢replace (once (verb_at ms) _ _ h.word g.word))
+one_action ms (action.Remove p) (action.Add y) h g = absurd (add≢remove (once (verb_at ms) _ _ g.word h.word))
+one_action ms (action.Remove p) (action.Replace q y) h g = absurd (remove≢replace (once (verb_at ms) _ _ h.word g.word))
+one_action ms (action.Replace p x) (action.Add y) h g = absurd (add≢replace (once (verb_at ms) _ _ g.word h.word))
+one_action ms (action.Replace p x) (action.Remove q) h g = absurd (remove≢replace (once (verb_at ms) _ _ g.word h.word))
+
+one_change_table : (ms : Members) (x y : ChangeText) → IsChangeTable ms x → IsChangeTable ms y → x ≡ y
+one_change_table ms x y h g =
+    let at = once (number_at (codes "at") 0 most_at ms) x.at y.at h.at g.at in
+    let live = once (flag_or false (codes "live") ms) x.live y.live h.live g.live in
+    let action = one_action ms x.action y.action h.action g.action in
+    λ i. record { at = at i; live = live i; action = action i }
+
+pub one_change : AreOne IsChange (HasNone IsChange)
+one_change = record { one = of_one_table IsChangeTable one_change_table; none = λ d x is no. no x is }
+
+one_place : (edges : List EdgeLine) (text : ForwardText) (x y : ForwardLine) → IsAtEdge edges text x → IsAtEdge edges text y → x ≡ y
+one_place edges text x y h g =
+    let edge = once (edge_place text.edge edges) x.edge y.edge h.edge g.edge in
+    let binding = h.binding ∙ sym g.binding in
+    λ i. record { edge = edge i; binding = binding i }
+
+one_placed : (edges : List EdgeLine) → AreOne (IsAtEdge edges) (HasNone (IsAtEdge edges))
+one_placed edges = record { one = one_place edges; none = λ d x is no. no x is }
+
+pub one_forwards : (rules : List Rule) (edges : List EdgeLine) (texts : List ForwardText) → IsOne (forwards_of rules edges texts)
+unfolding forwards_of
+one_forwards rules edges texts =
+    then_one _ _ (each_one ForwardEdge (IsAtEdge edges) (HasNone (IsAtEdge edges)) (one_placed edges) texts) (λ forwards.
+    barring_one (forward_fault rules edges forwards) _ (exactly_one _))
+
+one_moves : (place : ℕ) (dmr : Dmr) (rules : List Rule) (texts : List ChangeText) → IsOne (moves_from place dmr rules texts)
+one_moves place dmr rules [] = exactly_one _
+one_moves place dmr rules (text ∷ texts) =
+    then_one _ _ (the_one (IsMove rules dmr text) (Refused ChangeRefused place) (one_move rules dmr text)) (λ move.
+    then_one _ _ (one_moves (suc place) dmr (rules_after move.change rules) texts) (λ moves.
+    exactly_one _))
+
+pub one_changes : (dmr : Dmr) (rules : List Rule) (texts : List ChangeText) → IsOne (changes_of dmr rules texts)
+unfolding changes_of
+one_changes dmr rules texts = barring_one (order_fault texts) _ (one_moves 0 dmr rules texts)
+
 -- ---- the whole
 
 pub one_document : (octets : List ℕ) (x y : Members) → IsDocument octets x → IsDocument octets y → x ≡ y
@@ -289,16 +380,34 @@ listed_one : {A : Type 0} (cause : SetupCause) (Is : Data → A → Type 0) → 
 listed_one cause Is are None = exactly_one (Err (Refused cause 0))
 listed_one cause Is are (Some tables) = each_one cause Is (HasNone Is) are tables
 
-pub one_document_setup : (document : Members) → IsOne (document_setup document)
-unfolding document_setup
-one_document_setup document =
+one_tables : (document : Members) → IsOne (tables_of document)
+unfolding tables_of
+one_tables document =
     then_one _ _ (the_one (IsDomain document) (Refused BadDomain 0) (one_domain document)) (λ domain.
     then_one _ _ (listed_one BadRule IsRule one_rule (tables_at (codes "rule") document)) (λ lines.
     then_one _ _ (listed_one BadEdge IsEdge one_edge (tables_at (codes "edge") document)) (λ edges.
-    then_one _ _ (exactly_one (given_by domain.origin lines)) (λ given.
+    then_one _ _ (listed_one BadForward IsForward one_forward (tables_at (codes "forward") document)) (λ forwards.
+    then_one _ _ (listed_one BadChange IsChange one_change (tables_at (codes "change") document)) (λ changes.
+    exactly_one _)))))
+
+one_first_book : (given : Given) → IsOne (first_book given)
+unfolding first_book
+one_first_book given =
     then_one _ _ (each_one RuleShape HasParts BreaksShape one_shaped given.lines) (λ rules.
-    then_one _ _ (one_book_of rules given.dmr) (λ book.
-    barring_one (edge_fault edges given.dmr) _ (exactly_one _)))))))
+    one_book_of rules given.dmr)
+
+one_tables_setup : (tables : Tables) → IsOne (tables_setup tables)
+unfolding tables_setup
+one_tables_setup tables =
+    then_one _ _ (exactly_one (given_by tables.domain.origin tables.lines)) (λ given.
+    then_one _ _ (one_first_book given) (λ book.
+    then_one _ _ (barring_one (edge_fault tables.edges given.dmr) _ (one_forwards (rules_of book) tables.edges tables.forwards)) (λ forwards.
+    then_one _ _ (one_changes (dmr_of book) (rules_of book) tables.changes) (λ changes.
+    exactly_one _))))
+
+pub one_document_setup : (document : Members) → IsOne (document_setup document)
+unfolding document_setup
+one_document_setup document = then_one _ _ (one_tables document) one_tables_setup
 
 pub one_setup : (octets : List ℕ) → IsOne (setup_of octets)
 unfolding setup_of

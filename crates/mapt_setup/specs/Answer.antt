@@ -5,7 +5,7 @@ use Rattle.std.specs.List.{AllZip}
 use Rattle.toml.specs.Data.{Data, table, Members}
 use Rattle.mapt_setup.specs.declared.fault.SetupCause.{SetupCause}
 use Rattle.mapt_setup.specs.declared.fault.SetupFault.{SetupFault}
-use Rattle.mapt_setup.specs.declared.fault.SetupFault.TheVariants.{Refused, NotBuilt, NoMemory}
+use Rattle.mapt_setup.specs.declared.fault.SetupFault.TheVariants.{Refused, NoMemory}
 
 -- a first stage, and one that goes on with its value
 pub record IsThen {A B : Type 0} (first : Result A SetupFault → Type 0) (next : A → Result B SetupFault → Type 0) (result : Result B SetupFault) : Type 0 where
@@ -63,5 +63,4 @@ HasNone {D} {A} Is d = (x : A) → Is d x → ⊥
 abbrev pub Gives : {X Y : Type 0} → (X → Y) → Result X SetupFault → (Result Y SetupFault → Type 0) → Type 0
 Gives view (Ok x) answer = answer (Ok (view x))
 Gives view (Err (Refused cause i)) answer = answer (Err (Refused cause i))
-Gives view (Err NotBuilt) answer = answer (Err NotBuilt)
 Gives view (Err NoMemory) answer = Unit {0}

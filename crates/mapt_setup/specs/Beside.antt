@@ -1,27 +1,25 @@
--- Edges beside those before them: the first of which something is true, and that there is none.
-use Rattle.std.specs.Prelude.{ℕ, ◌<◌, Bool, IsTrue, List, length, take, slice_index_or}
-use Rattle.std.specs.List.{All}
-use Rattle.map_rules.specs.declared.dmr.Dmr.{Dmr}
-use Rattle.mapt_setup.specs.declared.edge.EdgeLine.{EdgeLine}
-use Rattle.mapt_setup.specs.Crowd.{has_name_of, is_crowded, is_over}
+-- Elements of a list beside those before them: the first of which something is true, and that there is none.
+use Rattle.std.specs.Prelude.{ℕ, ◌<◌, ◌++◌, Bool, IsTrue, List, [], ◌∷◌, length, take, slice_index_or, if◌then◌else◌, Option, Some, None}
 
--- the test is true of the edge at this place, beside those before it
-abbrev pub HoldsBeside : (List EdgeLine → EdgeLine → Bool) → List EdgeLine → ℕ → Type 0
-HoldsBeside test edges place = (d : EdgeLine) → IsTrue (test (take place edges) (slice_index_or edges place d))
+-- among the elements that follow the earlier ones, the place of the first of which this is true beside those
+-- before it
+abbrev pub first_from : {A : Type 0} → (List A → A → Bool) → List A → List A → Option ℕ
+first_from test earlier [] = None
+first_from test earlier (x ∷ xs) = if test earlier x then Some (length earlier) else first_from test (earlier ++ x ∷ []) xs
 
--- it is true of no edge before this place
-abbrev pub FailsBefore : (List EdgeLine → EdgeLine → Bool) → List EdgeLine → ℕ → Type 0
-FailsBefore test edges place = (k : ℕ) (d : EdgeLine) → k < place → ¬ IsTrue (test (take k edges) (slice_index_or edges k d))
+abbrev pub first_after : {A : Type 0} → (List A → A → Bool) → List A → Option ℕ
+first_after test xs = first_from test [] xs
 
--- the first edge of which it is true
-pub record IsFirstBeside (test : List EdgeLine → EdgeLine → Bool) (edges : List EdgeLine) (place : ℕ) : Type 0 where
-  pub within : place < length edges
-  pub holds : HoldsBeside test edges place
-  pub none_before : FailsBefore test edges place
+-- the test is true of the element at this place, beside those before it
+abbrev pub HoldsBeside : {A : Type 0} → (List A → A → Bool) → List A → ℕ → Type 0
+HoldsBeside {A} test xs place = (d : A) → IsTrue (test (take place xs) (slice_index_or xs place d))
 
--- no edge has the name of an earlier one; none has too long a prefix or one that overlaps an earlier
--- edge's; and no prefix overlaps that of the default mapping rule
-pub record AreApart (edges : List EdgeLine) (dmr : Dmr) : Type 0 where
-  pub names : FailsBefore has_name_of edges (length edges)
-  pub prefixes : FailsBefore is_crowded edges (length edges)
-  pub outside : All (λ edge. ¬ IsTrue (is_over dmr edge)) edges
+-- it is true of no element before this place
+abbrev pub FailsBefore : {A : Type 0} → (List A → A → Bool) → List A → ℕ → Type 0
+FailsBefore {A} test xs place = (k : ℕ) (d : A) → k < place → ¬ IsTrue (test (take k xs) (slice_index_or xs k d))
+
+-- the first element of which it is true
+pub record IsFirstBeside {A : Type 0} (test : List A → A → Bool) (xs : List A) (place : ℕ) : Type 0 where
+  pub within : place < length xs
+  pub holds : HoldsBeside test xs place
+  pub none_before : FailsBefore test xs place

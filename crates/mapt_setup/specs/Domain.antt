@@ -9,7 +9,7 @@ use Rattle.mapt_setup.specs.Spelled.{HasAddr4}
 
 -- the names at the top
 abbrev pub top_names : List (List ℕ)
-top_names = codes "domain" ∷ codes "rule" ∷ codes "edge" ∷ []
+top_names = codes "domain" ∷ codes "rule" ∷ codes "edge" ∷ codes "forward" ∷ codes "change" ∷ []
 
 abbrev pub domain_keys : List (List ℕ)
 domain_keys = codes "dmr" ∷ codes "relay" ∷ codes "mtu4" ∷ codes "mtu6" ∷ codes "access" ∷ codes "core" ∷ codes "options" ∷ []

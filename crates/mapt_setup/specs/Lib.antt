@@ -8,6 +8,16 @@ pub mod Domain
 pub mod EdgeName
 pub mod Edge
 pub mod Shapes
-pub mod Crowd
 pub mod Beside
+pub mod Crowd
+pub mod Forward
+pub mod Change
+pub mod Claims
+pub mod Moves
+pub mod Tables
+pub mod Few
 pub mod Setup
+pub mod Generation
+pub mod Valid
+pub mod Fit
+pub mod Script

@@ -3,7 +3,8 @@
 ghost use Rattle.std.specs.Prelude.{◌≡◌, ◌<◌, ◌≤◌, length, IfSome};
 ghost use Rattle.std.specs.List.{list_any, position};
 ghost use Rattle.rule_book.specs.Overlap.{overlaps6};
-ghost use Rattle.mapt_setup.specs.Crowd.{has_name_of, is_crowded, is_over, first_after, edge_fault};
+ghost use Rattle.mapt_setup.specs.Beside.{first_after};
+ghost use Rattle.mapt_setup.specs.Crowd.{has_name_of, is_crowded, is_over, edge_fault};
 
 use crate::edge::EdgeLine;
 use crate::{SetupCause, SetupFault};

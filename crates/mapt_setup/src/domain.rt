@@ -12,7 +12,7 @@ use std::alloc::Global;
 use toml::Table;
 
 /// The names at the top of a configuration.
-const TOP_NAMES: [&str; 3] = ["domain", "rule", "edge"];
+const TOP_NAMES: [&str; 5] = ["domain", "rule", "edge", "forward", "change"];
 
 /// The keys of `[domain]`.
 const KEYS: [&str; 7] = ["dmr", "relay", "mtu4", "mtu6", "access", "core", "options"];

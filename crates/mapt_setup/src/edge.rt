@@ -71,7 +71,7 @@ impl Edges {
 }
 
 /// A text in memory of its own.
-fn bytes_of(alloc: Global, text: &str) -> Result<Bytes, NoMemory>
+pub fn bytes_of(alloc: Global, text: &str) -> Result<Bytes, NoMemory>
     ensures { IfOk result (λ bytes. bytes ≡ text.now) }
 {
     let mut bytes = Bytes::new(alloc);

@@ -83,9 +83,6 @@ pub enum SetupFault {
     /// The configuration is refused for this cause at this place.
     #[error("{0}, at {1}")]
     Refused(SetupCause, u32),
-    /// The configuration has forwards or changes, which aren't served yet.
-    #[error("forwards and changes are not built")]
-    NotBuilt,
     /// Memory ran out.
     #[error("out of memory")]
     NoMemory,

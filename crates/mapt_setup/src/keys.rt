@@ -91,6 +91,31 @@ fn number_in(value: &Value, least: u16, most: u16) -> Option<u16>
     (least <= number && number <= most).then_some(number)
 }
 
+/// The whole number of at most `most` that a value is.
+fn long_in(value: &Value, most: u64) -> Option<u64>
+    ensures { result ≡ number_in 0 most (view value.now) }
+{
+    let number = u64::try_from(value.as_integer()?).ok()?;
+    (number <= most).then_some(number)
+}
+
+/// The whole number of at most `most` at a key.
+pub fn long_at(table: &Table, key: &str, most: u64) -> Option<u64>
+    ensures { result ≡ number_at key.now 0 most (table_view table.now) }
+{
+    long_in(value_at(table, key)?, most)
+}
+
+/// The same, or the default where the key is missing.
+pub fn long_or(default: u64, table: &Table, key: &str, most: u64) -> Option<u64>
+    ensures { result ≡ number_or default key.now most (table_view table.now) }
+{
+    match value_at(table, key) {
+        None => Some(default),
+        Some(value) => long_in(value, most),
+    }
+}
+
 /// The number of at most `most` at a key, or the default where the key is missing.
 pub fn number_or(default: u16, table: &Table, key: &str, most: u16) -> Option<u16>
     ensures { result ≡ number_or default key.now most (table_view table.now) }

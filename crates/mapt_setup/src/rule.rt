@@ -33,7 +33,7 @@ impl RuleLine {
     ghost use Rattle.mapt_setup.specs.Rule.{IsRule};
 
     /// What a table says, or `None` where a key isn't as it should be.
-    fn of(value: &Value) -> Option<RuleLine>
+    pub(crate) fn of(value: &Value) -> Option<RuleLine>
         ensures found { IfSome result (IsRule (view value.now)) }
         ensures none { IfNone result (HasNone IsRule (view value.now)) }
     {

@@ -1,12 +1,15 @@
-ghost use Rattle.std.specs.Prelude.{◌≡◌, false};
+ghost use Rattle.std.specs.Prelude.{◌≡◌, false, IfOk};
 ghost use Rattle.toml.specs.View.{table_view};
-ghost use Rattle.mapt_setup.specs.Answer.{Gives, exactly};
+ghost use Rattle.mapt_setup.specs.Answer.{Gives};
 
+use crate::claims::forwards_of;
 use crate::crowd::edge_fault;
-use crate::document::{document, edge_lines, has_too_many, is_unbuilt, rule_lines};
 use crate::domain::Domain;
 use crate::edge::Edges;
-use crate::shapes::{book, shaped};
+use crate::forward::Forwards;
+use crate::moves::{Changes, book_after_all, changes_of};
+use crate::shapes::first_book;
+use crate::tables::{Tables, document, has_too_many};
 use crate::{SetupCause, SetupFault};
 use octets::{Addr4, Mtus, Name};
 use rule_book::Book;
@@ -28,19 +31,31 @@ pub struct Setup {
     pub core: Option<Name>,
     /// The edges in the order of the file.
     pub edges: Edges,
+    /// The forwards in the order of the file.
+    pub forwards: Forwards,
+    /// The changes in the order of the file, which is that of their times. The first makes generation 1.
+    pub changes: Changes,
 }
 
 impl Setup {
-    ghost use Rattle.mapt_setup.specs.Setup.{has_too_many, document_setup, setup_of, book_at};
+    ghost use Rattle.mapt_setup.specs.Tables.{has_too_many};
+    ghost use Rattle.mapt_setup.specs.Few.{AreFew};
+    ghost use Rattle.mapt_setup.specs.Setup.{tables_setup, document_setup, setup_of};
+    ghost use Rattle.mapt_setup.specs.Generation.{book_at};
+    ghost use Rattle.mapt_setup.specs.Valid.{IsValidSetup};
 
-    /// What a document sets up.
-    fn of(alloc: Global, document: &Table) -> Result<Setup, SetupFault>
-        requires { has_too_many (table_view document.now) ≡ false }
-        ensures { Gives (λ setup. setup) result (document_setup (table_view document.now)) }
+    /// What tables set up.
+    fn of_tables(alloc: Global, tables: Tables) -> Result<Setup, SetupFault>
+        requires { AreFew tables }
+        ensures { Gives (λ setup. setup) result (tables_setup tables) }
     {
-        let domain = Domain::read(alloc, document)?;
-        let lines = rule_lines(alloc, document)?;
-        let edges = edge_lines(alloc, document)?;
+        let Tables {
+            domain,
+            lines,
+            edges,
+            forwards,
+            changes,
+        } = tables;
         let Domain {
             required,
             origin,
@@ -48,11 +63,12 @@ impl Setup {
             core,
         } = domain;
         let given = origin.given(lines)?;
-        let rules = shaped(alloc, given.lines.as_slice())?;
-        let book = book(alloc, &rules, given.dmr)?;
+        let book = first_book(alloc, &given)?;
         if let Some(fault) = edge_fault(edges.as_slice(), &given.dmr) {
             return Err(fault);
         }
+        let forwards = forwards_of(alloc, &book, edges.as_slice(), forwards.as_slice())?;
+        let changes = changes_of(alloc, &book, changes.as_slice())?;
         Ok(Setup {
             book,
             relay: required.relay,
@@ -60,33 +76,42 @@ impl Setup {
             access,
             core,
             edges,
+            forwards,
+            changes,
         })
     }
 
+    /// What a document sets up.
+    fn of(alloc: Global, document: &Table) -> Result<Setup, SetupFault>
+        requires { has_too_many (table_view document.now) ≡ false }
+        ensures { Gives (λ setup. setup) result (document_setup (table_view document.now)) }
+    {
+        Setup::of_tables(alloc, Tables::read(alloc, document)?)
+    }
+
     /// Reads a configuration. It is refused with its first fault: `Refused` with the first cause in the
-    /// order of `SetupCause` over the whole file and its least place; `NotBuilt`, tested right after
-    /// `NotToml`, where it has the names `forward` or `change`.
+    /// order of `SetupCause` over the whole file and its least place. What is answered is valid.
     pub fn read(alloc: Global, octets: &[u8]) -> Result<Setup, SetupFault>
-        ensures { Gives (λ setup. setup) result (setup_of octets.now) }
+        ensures exact { Gives (λ setup. setup) result (setup_of octets.now) }
+        ensures valid { IfOk result IsValidSetup }
     {
         let document = document(alloc, octets)?;
-        if is_unbuilt(&document) {
-            return Err(SetupFault::NotBuilt);
-        }
         if has_too_many(&document) {
             return Err(SetupFault::Refused(SetupCause::TooMany, 0));
         }
         Setup::of(alloc, &document)
     }
 
-    /// The book of a generation, in memory of its own. There are no changes, so generation 0 alone has
-    /// one; each other is refused with `NoGeneration` and its number.
+    /// The book of a generation, in memory of its own: that of generation 0 after so many changes. A number
+    /// above that of the changes is refused with `NoGeneration` and itself.
     pub fn book(&self, alloc: Global, generation: u32) -> Result<Book, SetupFault>
-        ensures { Gives (λ made. made) result (exactly (book_at self.now generation)) }
+        requires { IsValidSetup self.now }
+        ensures { Gives (λ made. made) result (book_at self.now generation) }
     {
-        if generation > 0 {
+        let changes = self.changes.as_slice();
+        if generation as usize > changes.len() {
             return Err(SetupFault::Refused(SetupCause::NoGeneration, generation));
         }
-        Ok(self.book.copy(alloc)?)
+        book_after_all(alloc, &self.book, &changes[..generation as usize])
     }
 }

@@ -1,31 +1,41 @@
 //! The rules that have the shape of one, and the book that they make.
 
-ghost use Rattle.std.specs.Prelude.{◌≡◌, ◌≤◌, map, length};
+ghost use Rattle.std.specs.Prelude.{◌≡◌, ◌≤◌, length, IfSome, IfNone};
 ghost use Rattle.map_rules.specs.declared.dmr.Dmr.{Dmr as DmrType};
 ghost use Rattle.mapt_setup.specs.Answer.{Gives, each};
 ghost use Rattle.mapt_setup.specs.Shapes.{HasParts, BreaksShape, book_of};
+ghost use Rattle.mapt_setup.specs.Setup.{first_book};
 
+use crate::origin::Given;
 use crate::rule::RuleLine;
 use crate::{SetupCause, SetupFault};
 use map_rules::{Dmr, Rule};
 use rule_book::{Book, BookFault};
 use std::alloc::Global;
 
+/// The rule of these parts, or `None` where they break a shape rule.
+pub fn rule_of(line: &RuleLine) -> Option<Rule>
+    ensures found { IfSome result (HasParts line.now) }
+    ensures none { IfNone result (BreaksShape line.now) }
+{
+    Rule::new(
+        line.prefix6,
+        line.prefix4,
+        line.ea,
+        line.offset,
+        line.forward,
+    )
+    .ok()
+}
+
 /// The rules of these parts, or the first that breaks a shape rule.
-pub fn shaped(alloc: Global, lines: &[RuleLine]) -> Result<Vec<Rule>, SetupFault>
+fn shaped(alloc: Global, lines: &[RuleLine]) -> Result<Vec<Rule>, SetupFault>
     requires { length lines.now ≤ 256 }
     ensures { Gives (λ rules. rules.items) result (each SetupCause.RuleShape HasParts BreaksShape lines.now) }
 {
     let mut rules = Vec::new(alloc);
     for (i, line) in lines.iter().enumerate() {
-        let made = Rule::new(
-            line.prefix6,
-            line.prefix4,
-            line.ea,
-            line.offset,
-            line.forward,
-        );
-        let Ok(rule) = made else {
+        let Some(rule) = rule_of(line) else {
             return Err(SetupFault::Refused(SetupCause::RuleShape, i as u32));
         };
         rules.push(rule)?;
@@ -34,7 +44,7 @@ pub fn shaped(alloc: Global, lines: &[RuleLine]) -> Result<Vec<Rule>, SetupFault
 }
 
 /// The book of generation 0 with these rules, or why they are none.
-pub fn book(alloc: Global, rules: &[Rule], dmr: Dmr) -> Result<Book, SetupFault>
+fn book(alloc: Global, rules: &[Rule], dmr: Dmr) -> Result<Book, SetupFault>
     ensures { Gives (λ made. made) result (book_of rules.now dmr) }
 {
     let fault = match Book::start(alloc, rules, dmr) {
@@ -49,4 +59,13 @@ pub fn book(alloc: Global, rules: &[Rule], dmr: Dmr) -> Result<Book, SetupFault>
         BookFault::NoMemory => SetupFault::NoMemory,
         BookFault::NoSuchRule | BookFault::RuleThere(_) => unreachable!("faults of changes alone"),
     })
+}
+
+/// The book of generation 0 by the default mapping rule and the lines of the rules.
+pub fn first_book(alloc: Global, given: &Given) -> Result<Book, SetupFault>
+    requires { length given.now.lines ≤ 256 }
+    ensures { Gives (λ made. made) result (first_book given.now) }
+{
+    let rules = shaped(alloc, given.lines.as_slice())?;
+    book(alloc, &rules, given.dmr)
 }

@@ -2,12 +2,13 @@
 -- outside or why it refuses. The definitions of this file are relations, since what a text sets up is one.
 use Rattle.std.specs.Prelude.{◌≡◌, ℕ, ◌-◌, List, length, map, Result, Ok, Err}
 use Rattle.outside.specs.declared.file_id.FileId.TheVariants.{Config, Options}
-use Rattle.rule_book.specs.declared.book.Book.{Book}
-use Rattle.rule_book.specs.Book.{rules_of, dmr_of}
+use Rattle.map_rules.specs.declared.rule.Rule.{Rule}
+use Rattle.rule_book.specs.Book.{dmr_of}
 use Rattle.rule_book.specs.Text.{book_text, owner_text}
 use Rattle.mapt_setup.specs.declared.setup.Setup.{Setup}
 use Rattle.mapt_setup.specs.declared.fault.SetupFault.{SetupFault}
-use Rattle.mapt_setup.specs.Setup.{setup_of, book_at}
+use Rattle.mapt_setup.specs.Setup.{setup_of}
+use Rattle.mapt_setup.specs.Generation.{rules_at}
 use Rattle.mapt_tool.specs.declared.status.Status.{Status}
 use Rattle.mapt_tool.specs.Limits.{limit_of, command_limit}
 use Rattle.mapt_tool.specs.Planned.{Planned, says}
@@ -26,19 +27,19 @@ IsSetup text (Err status) = (fault : SetupFault) × setup_of text (Err fault) ×
 abbrev pub Configures : List ℕ → List Read → Next Setup Status → Type 0
 Configures config = Then (Reads Config config (limit_of command_limit)) (λ text. Answers (IsSetup text))
 
--- what is said of a generation's book, if there is one
-abbrev pub said_of : (Book → List ℕ) → Result Book SetupFault → Result Planned Status
-said_of text (Ok book) = Ok (says (text book))
+-- what is said of a generation's rules, if it has any
+abbrev pub said_of : (List Rule → List ℕ) → Result (List Rule) SetupFault → Result Planned Status
+said_of text (Ok standing) = Ok (says (text standing))
 said_of text (Err fault) = Err (status_of fault)
 
 -- the rules of a generation
 abbrev pub rules_said : Setup → ℕ → Result Planned Status
-rules_said setup generation = said_of (λ book. book_text (rules_of book) (dmr_of book)) (book_at setup generation)
+rules_said setup generation = said_of (λ standing. book_text standing (dmr_of setup.book)) (rules_at setup generation)
 
 -- which edge address holds an IPv4 address and port in a generation
 abbrev pub owner_said : Setup → ℕ → ℕ → ℕ → Result Planned Status
 owner_said setup generation addr port =
-    said_of (λ book. owner_text (rules_of book) (map (λ e. e.prefix) setup.edges) (map (λ e. e.name) setup.edges) addr port) (book_at setup generation)
+    said_of (λ standing. owner_text standing (map (λ e. e.prefix) setup.edges) (map (λ e. e.name) setup.edges) addr port) (rules_at setup generation)
 
 -- the configuration of this name is read and set up, and then replayed with what is left of the command's octets
 abbrev pub Replays : List ℕ → List ℕ → List Read → Next Planned Status → Type 0

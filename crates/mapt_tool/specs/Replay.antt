@@ -1,5 +1,5 @@
 -- What a replay comes to, for a configuration of one edge.
-use Rattle.std.specs.Prelude.{◌≡◌, ℕ, Bool, false, ◌||◌, List, [], ◌∷◌, ◌++◌, codes, Option, Some, None, is_some, Result, Ok, Err}
+use Rattle.std.specs.Prelude.{◌≡◌, ℕ, Bool, false, ◌||◌, nat_lt, length, List, [], ◌∷◌, ◌++◌, codes, Option, Some, None, is_some, Result, Ok, Err}
 use Rattle.outside.specs.declared.file_id.FileId.TheVariants.{Config, InLan, OutAccess, OutCore}
 use Rattle.pcap_files.specs.declared.records.Record.{Record}
 use Rattle.pcap_files.specs.declared.fault.CaptureFault.{CaptureFault}
@@ -21,13 +21,18 @@ pub record Replayed : Type 0 where
   pub edge : Edge
   pub lan : Option (List ℕ)
 
--- the only edge of a setup that has no capture but that of its LAN
+-- the only edge of a setup that has no capture but that of its LAN, no forward and no change
 abbrev pub only_one : Bool → List EdgeLine → Option EdgeLine
 only_one false (line ∷ []) = Some line
 only_one _ _ = None
 
+-- it has another capture, or a forward, or a change
+abbrev pub asks_for_more : Setup → Bool
+asks_for_more setup =
+    (is_some setup.access || is_some setup.core) || (nat_lt 0 (length setup.forwards) || nat_lt 0 (length setup.changes))
+
 abbrev pub only_edge : Setup → Option EdgeLine
-only_edge setup = only_one (is_some setup.access || is_some setup.core) setup.edges
+only_edge setup = only_one (asks_for_more setup) setup.edges
 
 -- it is replayed where it holds an address and a port set with a port that it may claim
 abbrev pub IsEdgeOf : Setup → Option EdgeLine → Replayed → Type 0

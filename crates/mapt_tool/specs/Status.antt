@@ -1,6 +1,5 @@
 -- The exit status of each way in which a command ends.
 use Rattle.std.specs.Prelude.{ℕ}
-use Rattle.outside.specs.declared.file_id.FileId.TheVariants.{Config}
 use Rattle.mapt_setup.specs.declared.fault.SetupFault.{SetupFault}
 use Rattle.mapt_setup.specs.declared.fault.SetupFault.TheVariants as setup
 use Rattle.mapt_tool.specs.declared.status.Status.{Status}
@@ -20,5 +19,4 @@ number_of (NotBuilt file) = 11
 -- how a command ends for what is wrong with its configuration
 abbrev pub status_of : SetupFault → Status
 status_of (setup.Refused cause place) = SetupRefused cause place
-status_of setup.NotBuilt = NotBuilt Config
 status_of setup.NoMemory = NoMemory

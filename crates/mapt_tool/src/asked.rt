@@ -4,6 +4,7 @@ ghost use Rattle.std.specs.Prelude.{◌≡◌, map, IfOk};
 ghost use Rattle.outside.specs.Seen.{folder_seen};
 ghost use Rattle.rule_book.specs.Book.{rules_of};
 ghost use Rattle.rule_book.specs.Text.{owner_text};
+ghost use Rattle.mapt_setup.specs.Valid.{IsValidSetup};
 ghost use Rattle.mapt_tool.specs.Course.{IsSetup, Configures, Course, rules_said, owner_said};
 ghost use Rattle.mapt_tool.specs.Ended.{Ended, Given};
 ghost use Rattle.mapt_tool.specs.Planned.{says};
@@ -20,7 +21,8 @@ use std::alloc::Global;
 
 /// The setup of these octets.
 pub fn setup_in(alloc: Global, text: &[u8]) -> Result<Setup, Status>
-    ensures { Given (IsSetup text.now) result }
+    ensures given { Given (IsSetup text.now) result }
+    ensures valid { IfOk result IsValidSetup }
 {
     match Setup::read(alloc, text) {
         Ok(setup) => Ok(setup),
@@ -30,7 +32,8 @@ pub fn setup_in(alloc: Global, text: &[u8]) -> Result<Setup, Status>
 
 /// The setup of the configuration in this file.
 fn configured<F: Folder>(alloc: Global, folder: &mut F, config: &str) -> Result<Setup, Status>
-    ensures { Ended (Configures config.now) (folder_seen F.files F.handed F.faults F.last folder.old) (folder_seen F.files F.handed F.faults F.last folder.new) result }
+    ensures ended { Ended (Configures config.now) (folder_seen F.files F.handed F.faults F.last folder.old) (folder_seen F.files F.handed F.faults F.last folder.new) result }
+    ensures valid { IfOk result IsValidSetup }
 {
     let text = match read_text(alloc, folder, FileId::Config, config, COMMAND_LIMIT) {
         Ok(text) => text,
@@ -53,6 +56,7 @@ pub fn saying(alloc: Global, text: &[u8]) -> Result<Plan, NoMemory>
 
 /// What is said of the rules of a generation.
 fn rules_said(alloc: Global, setup: &Setup, generation: u32) -> Result<Plan, Status>
+    requires { IsValidSetup setup.now }
     ensures { Given (λ answer. answer ≡ rules_said setup.now generation) result }
 {
     let book = match setup.book(alloc, generation) {
@@ -107,6 +111,7 @@ fn owner_said(
     addr: Addr4,
     port: u16,
 ) -> Result<Plan, Status>
+    requires { IsValidSetup setup.now }
     ensures { Given (λ answer. answer ≡ owner_said setup.now generation addr.0 port) result }
 {
     let book = match setup.book(alloc, generation) {

@@ -1,6 +1,6 @@
 //! The command that replays the capture of a LAN.
 
-ghost use Rattle.std.specs.Prelude.{◌≡◌, ◌^◌, ◌≤◌, ◌++◌, length, ◌||◌, is_some, Some, All, IfOk};
+ghost use Rattle.std.specs.Prelude.{◌≡◌, ◌^◌, ◌≤◌, ◌++◌, length, Some, All, IfOk};
 ghost use Rattle.outside.specs.Seen.{folder_seen};
 ghost use Rattle.pcap_files.specs.Written.{IsWritable};
 ghost use Rattle.pcap_files.specs.Capture.{capture};
@@ -9,7 +9,7 @@ ghost use Rattle.mapt_tool.specs.Course.{IsSetup, Replays};
 ghost use Rattle.mapt_tool.specs.Reading.{Answers, Then};
 ghost use Rattle.mapt_tool.specs.Ended.{Ended, Given};
 ghost use Rattle.mapt_tool.specs.Limits.{record_limit};
-ghost use Rattle.mapt_tool.specs.Replay.{only_edge, replay_plan, IsPlanned, IsPlannedBy, ReplaysLan, ReplaysSetup};
+ghost use Rattle.mapt_tool.specs.Replay.{asks_for_more, only_edge, replay_plan, IsPlanned, IsPlannedBy, ReplaysLan, ReplaysSetup};
 
 use crate::asked::setup_in;
 use crate::plan::{FileWrite, Plan};
@@ -114,11 +114,14 @@ fn with_edge<F: Folder>(
     }
 }
 
-/// Whether the setup names a capture beside that of a LAN.
-fn has_more_captures(setup: &Setup) -> bool
-    ensures { result ≡ (is_some setup.now.access || is_some setup.now.core) }
+/// Whether the setup names a capture beside that of a LAN, or has a forward or a change.
+fn asks_for_more(setup: &Setup) -> bool
+    ensures { result ≡ asks_for_more setup.now }
 {
-    setup.access.is_some() || setup.core.is_some()
+    let captures = setup.access.is_some() || setup.core.is_some();
+    let forwards = setup.forwards.as_slice().len() > 0;
+    let changes = setup.changes.as_slice().len() > 0;
+    captures || (forwards || changes)
 }
 
 /// Replays the only edge of a setup.
@@ -144,7 +147,7 @@ fn with_line<F: Folder>(
 }
 
 /// Replays a setup, where the command may still read `left` octets. One edge is replayed so far, with no capture but that
-/// of its LAN.
+/// of its LAN, no forward and no change.
 fn with_setup<F: Folder>(
     alloc: Global,
     folder: &mut F,
@@ -154,7 +157,7 @@ fn with_setup<F: Folder>(
 ) -> Result<Plan, Status>
     ensures { Ended (ReplaysSetup prefix.now left setup.now) (folder_seen F.files F.handed F.faults F.last folder.old) (folder_seen F.files F.handed F.faults F.last folder.new) result }
 {
-    if has_more_captures(setup) {
+    if asks_for_more(setup) {
         return Err(Status::NotBuilt(FileId::Config));
     }
     let edges = setup.edges.as_slice();

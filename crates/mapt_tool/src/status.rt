@@ -74,7 +74,6 @@ pub fn status_of(fault: SetupFault) -> Status
 {
     match fault {
         SetupFault::Refused(cause, place) => Status::SetupRefused(cause, place),
-        SetupFault::NotBuilt => Status::NotBuilt(FileId::Config),
         SetupFault::NoMemory => Status::NoMemory,
     }
 }

@@ -1,5 +1,6 @@
 use Rattle.std.proofs.Common.{◌≡◌, take, drop}
-use Rattle.mapt_setup.specs.Crowd.{has_name_of, first_after, first_from}
+use Rattle.mapt_setup.specs.Beside.{first_after, first_from}
+use Rattle.mapt_setup.specs.Crowd.{has_name_of}
 use Rattle.mapt_setup.proofs.crowd.first_named_again.Given as goal
 
 abbrev pub invariant-loop-i : goal.invariant-loop-i

@@ -3,19 +3,17 @@ use Rattle.std.specs.List.{AllZip}
 use Rattle.mapt_setup.specs.declared.rule.RuleLine.{RuleLine}
 use Rattle.mapt_setup.specs.Answer.{IsFirstBad}
 use Rattle.mapt_setup.specs.Shapes.{HasParts, BreaksShape}
-use Rattle.mapt_setup.proofs.Tables.{read-push, first_bad, map-same, take_all}
+use Rattle.mapt_setup.proofs.ListReads.{read-push, first_bad, map-same, take_all}
 use Rattle.mapt_setup.proofs.shapes.shaped.Goals as goal
 
 pub returns-in_default : goal.returns-in_default
 returns-in_default c =
     let Bad : List RuleLine → Type 0 = λ ds. IsFirstBad HasParts BreaksShape ds c.loop-i.i in
-    let broken : BreaksShape c.index-lines-i.result = rw (← rw c.in_default.is at c.new-made.ensures.refused) refl in
-    (c.loop-i.i, refl, subst Bad (map-same _) (first_bad (λ (line : RuleLine). line) HasParts BreaksShape _ _ _ c.index-lines-i.result c.loop-i-test.true c.index-lines-i.is c.loop-i.invariant broken))
+    (c.loop-i.i, refl, subst Bad (map-same _) (first_bad (λ (line : RuleLine). line) HasParts BreaksShape _ _ _ c.index-lines-i.result c.loop-i-test.true c.index-lines-i.is c.loop-i.invariant c.in_default.ensures.none))
 
 pub loop-i-preserved : goal.loop-i-preserved
 loop-i-preserved c =
-    let parts : HasParts c.index-lines-i.result c.in-Ok.rule = record { prefix6 = c.in-Ok.ensures.prefix6; prefix4 = c.in-Ok.ensures.prefix4; ea = c.in-Ok.ensures.ea; offset = c.in-Ok.ensures.offset; forward = c.in-Ok.ensures.forward } in
-    rw c.in_ok-push.ensures.items (read-push (λ (line : RuleLine). line) HasParts _ _ _ c.index-lines-i.result c.in-Ok.rule c.loop-i-test.true c.index-lines-i.is c.loop-i.invariant parts)
+    rw c.in_ok-push.ensures.items (read-push (λ (line : RuleLine). line) HasParts _ _ _ c.index-lines-i.result c.in-Some.rule c.loop-i-test.true c.index-lines-i.is c.loop-i.invariant c.in-Some.ensures.found)
 
 pub returns : goal.returns
 returns c =

@@ -1,4 +1,4 @@
-use Rattle.mapt_setup.proofs.Tables.{at_none}
+use Rattle.mapt_setup.proofs.ListReads.{at_none}
 use Rattle.mapt_setup.proofs.Spellings.{no_dmr}
 use Rattle.mapt_setup.proofs.spelled.dmr_at.Goals as goal
 

@@ -9,14 +9,14 @@ pub returns-in-Err : goal.returns-in-Err
 returns-in-Err g c =
     let folder = g.F.Folder in
     let seen = folder_seen folder.files folder.handed folder.faults folder.last in
-    ends_first (Configures c.args.config.now) (λ setup. Answers (λ answer. answer ≡ rules_said setup c.args.generation)) (seen c.args.folder.now) (seen c.configured.new.folder) c.in-Err.status c.in-Err.ensures
+    ends_first (Configures c.args.config.now) (λ setup. Answers (λ answer. answer ≡ rules_said setup c.args.generation)) (seen c.args.folder.now) (seen c.configured.new.folder) c.in-Err.status c.in-Err.ensures.ended
 
 pub returns-in-Ok-rules_said : goal.returns-in-Ok-rules_said
 returns-in-Ok-rules_said g c =
     let folder = g.F.Folder in
     let seen = folder_seen folder.files folder.handed folder.faults folder.last in
     let mid = seen c.configured.new.folder in
-    ends_then (Configures c.args.config.now) (λ setup. Answers (λ answer. answer ≡ rules_said setup c.args.generation)) (seen c.args.folder.now) mid mid c.in-Ok.setup (Ok c.in-Ok-rules_said.plan) c.in-Ok.ensures
+    ends_then (Configures c.args.config.now) (λ setup. Answers (λ answer. answer ≡ rules_said setup c.args.generation)) (seen c.args.folder.now) mid mid c.in-Ok.setup (Ok c.in-Ok-rules_said.plan) c.in-Ok.ensures.ended
     (ends_here (λ answer. answer ≡ rules_said c.in-Ok.setup c.args.generation) mid (Ok c.in-Ok-rules_said.plan) c.in-Ok-rules_said.ensures)
 
 pub returns : goal.returns
@@ -24,5 +24,5 @@ returns g c =
     let folder = g.F.Folder in
     let seen = folder_seen folder.files folder.handed folder.faults folder.last in
     let mid = seen c.configured.new.folder in
-    ends_then (Configures c.args.config.now) (λ setup. Answers (λ answer. answer ≡ rules_said setup c.args.generation)) (seen c.args.folder.now) mid mid c.in-Ok.setup (Err c.in-Err-rules_said.status) c.in-Ok.ensures
+    ends_then (Configures c.args.config.now) (λ setup. Answers (λ answer. answer ≡ rules_said setup c.args.generation)) (seen c.args.folder.now) mid mid c.in-Ok.setup (Err c.in-Err-rules_said.status) c.in-Ok.ensures.ended
     (ends_here (λ answer. answer ≡ rules_said c.in-Ok.setup c.args.generation) mid (Err c.in-Err-rules_said.status) c.in-Err-rules_said.ensures)

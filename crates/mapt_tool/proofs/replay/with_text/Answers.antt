@@ -12,4 +12,4 @@ returns-in-Ok g c =
     let seen = folder_seen folder.files folder.handed folder.faults folder.last in
     let now = seen c.args.folder.now in
     ends_then (Answers (IsSetup c.args.text.now)) (λ setup. ReplaysSetup c.args.prefix.now c.args.left setup) now now (seen c.with_setup.new.folder) c.in-Ok.setup c.with_setup.result
-    (ends_here (IsSetup c.args.text.now) now (Ok c.in-Ok.setup) c.in-Ok.ensures) c.with_setup.ensures
+    (ends_here (IsSetup c.args.text.now) now (Ok c.in-Ok.setup) c.in-Ok.ensures.given) c.with_setup.ensures

@@ -1,4 +1,4 @@
-use Rattle.mapt_setup.proofs.Tables.{at_none}
+use Rattle.mapt_setup.proofs.ListReads.{at_none}
 use Rattle.mapt_setup.proofs.domain.Required.of.Goals as goal
 
 pub returns-in_err-relay-clause-none : goal.returns-in_err-relay-clause-none

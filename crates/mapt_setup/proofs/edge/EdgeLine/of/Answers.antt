@@ -1,6 +1,6 @@
 use Rattle.std.proofs.Common.{rules}
 use Rattle.mapt_setup.specs.Edge.{IsEdgeTable}
-use Rattle.mapt_setup.proofs.Tables.{says, says_nothing}
+use Rattle.mapt_setup.proofs.ListReads.{says, says_nothing}
 use Rattle.mapt_setup.proofs.edge.EdgeLine.of.Goals as goal
 
 pub returns-in_default-prefix6_at-clause-none : goal.returns-in_default-prefix6_at-clause-none

@@ -4,7 +4,7 @@ use Rattle.toml.specs.declared.value.Value.{Value}
 use Rattle.toml.specs.View.{view}
 use Rattle.mapt_setup.specs.Answer.{HasNone}
 use Rattle.mapt_setup.specs.Edge.{IsEdge}
-use Rattle.mapt_setup.proofs.Tables.{read-push, first_bad, few_read, take_all}
+use Rattle.mapt_setup.proofs.ListReads.{read-push, first_bad, few_read, take_all}
 use Rattle.mapt_setup.proofs.edge.Edges.read.Goals as goal
 
 pub returns-in_default-clause-exact : goal.returns-in_default-clause-exact
@@ -18,4 +18,4 @@ loop-i-preserved c =
 pub returns-clause-few : goal.returns-clause-few
 returns-clause-few c =
     let All : List Value → Type 0 = λ vs. AllZip IsEdge (map view vs) c.loop-i.edges in
-    few_read view IsEdge c.args.values.now c.loop-i.edges (subst All (take_all _ _ c.loop-i-test.false) c.loop-i.invariant) c.requires
+    few_read view IsEdge 256 c.args.values.now c.loop-i.edges (subst All (take_all _ _ c.loop-i-test.false) c.loop-i.invariant) c.requires

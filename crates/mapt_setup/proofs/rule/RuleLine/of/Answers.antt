@@ -1,5 +1,5 @@
 use Rattle.mapt_setup.specs.Rule.{IsRuleTable}
-use Rattle.mapt_setup.proofs.Tables.{at_none, says_nothing}
+use Rattle.mapt_setup.proofs.ListReads.{at_none, says_nothing}
 use Rattle.mapt_setup.proofs.rule.RuleLine.of.Goals as goal
 
 pub returns-in_err-prefix6_at-clause-none : goal.returns-in_err-prefix6_at-clause-none

@@ -4,7 +4,7 @@ use Rattle.toml.specs.declared.value.Value.{Value}
 use Rattle.toml.specs.View.{view}
 use Rattle.mapt_setup.specs.Answer.{HasNone}
 use Rattle.mapt_setup.specs.Rule.{IsRule}
-use Rattle.mapt_setup.proofs.Tables.{read-push, first_bad, few_read, take_all}
+use Rattle.mapt_setup.proofs.ListReads.{read-push, first_bad, few_read, take_all}
 use Rattle.mapt_setup.proofs.rule.RuleLines.read.Goals as goal
 
 pub returns-in_default-clause-exact : goal.returns-in_default-clause-exact
@@ -18,4 +18,4 @@ loop-i-preserved c =
 pub returns-clause-few : goal.returns-clause-few
 returns-clause-few c =
     let All : List Value → Type 0 = λ vs. AllZip IsRule (map view vs) c.loop-i.lines in
-    few_read view IsRule c.args.values.now c.loop-i.lines (subst All (take_all _ _ c.loop-i-test.false) c.loop-i.invariant) c.requires
+    few_read view IsRule 256 c.args.values.now c.loop-i.lines (subst All (take_all _ _ c.loop-i-test.false) c.loop-i.invariant) c.requires

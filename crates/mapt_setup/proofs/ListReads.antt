@@ -75,5 +75,5 @@ length-AllZip R (x ∷ xs) [] all = absurd all
 length-AllZip R (x ∷ xs) (y ∷ ys) all = ap suc (length-AllZip R xs ys all.1)
 
 -- so many are read, of elements in memory
-pub few_read : {V D A : Type 0} (seen : V → D) (Is : D → A → Type 0) (vs : List V) (xs : List A) → AllZip Is (map seen vs) xs → length vs ≤ 256 → length xs ≤ 256
-few_read seen Is vs xs all few = omega (arith, length-AllZip Is (map seen vs) xs all, length-map vs seen)
+pub few_read : {V D A : Type 0} (seen : V → D) (Is : D → A → Type 0) (most : ℕ) (vs : List V) (xs : List A) → AllZip Is (map seen vs) xs → length vs ≤ most → length xs ≤ most
+few_read seen Is most vs xs all few = omega (arith, length-AllZip Is (map seen vs) xs all, length-map vs seen)
