@@ -12,3 +12,7 @@ pub mod Actions
 pub mod ValidForwards
 pub mod Moving
 pub mod ValidSetups
+pub mod Ordering
+pub mod OneScript
+pub mod Segments
+pub mod FitCaptures

@@ -31,7 +31,7 @@ use Rattle.rule_book.specs.Book.{rules_of, dmr_of}
 use Rattle.rule_book.specs.Change.{rules_after}
 use Rattle.mapt_setup.specs.Forward.{proto_at, HasBinding, IsForwardTable, IsForward, most_until, never}
 use Rattle.mapt_setup.specs.Change.{verb_at, HasRule, HasAction, IsChangeTable, IsChange, most_at}
-use Rattle.mapt_setup.specs.Claims.{edge_place, IsPlaced, forward_fault, forwards_of}
+use Rattle.mapt_setup.specs.Claims.{edge_place, IsAtEdge, forward_fault, forwards_of}
 use Rattle.mapt_setup.specs.Moves.{order_fault, IsMove, moves_from, changes_of}
 use Rattle.mapt_setup.proofs.Moving.{one_move}
 use Rattle.mapt_setup.proofs.Actions.{add≢remove, add≢replace, remove≢replace}
@@ -345,19 +345,19 @@ one_change_table ms x y h g =
 pub one_change : AreOne IsChange (HasNone IsChange)
 one_change = record { one = of_one_table IsChangeTable one_change_table; none = λ d x is no. no x is }
 
-one_place : (edges : List EdgeLine) (text : ForwardText) (x y : ForwardLine) → IsPlaced edges text x → IsPlaced edges text y → x ≡ y
+one_place : (edges : List EdgeLine) (text : ForwardText) (x y : ForwardLine) → IsAtEdge edges text x → IsAtEdge edges text y → x ≡ y
 one_place edges text x y h g =
     let edge = once (edge_place text.edge edges) x.edge y.edge h.edge g.edge in
     let binding = h.binding ∙ sym g.binding in
     λ i. record { edge = edge i; binding = binding i }
 
-one_placed : (edges : List EdgeLine) → AreOne (IsPlaced edges) (HasNone (IsPlaced edges))
+one_placed : (edges : List EdgeLine) → AreOne (IsAtEdge edges) (HasNone (IsAtEdge edges))
 one_placed edges = record { one = one_place edges; none = λ d x is no. no x is }
 
 pub one_forwards : (rules : List Rule) (edges : List EdgeLine) (texts : List ForwardText) → IsOne (forwards_of rules edges texts)
 unfolding forwards_of
 one_forwards rules edges texts =
-    then_one _ _ (each_one ForwardEdge (IsPlaced edges) (HasNone (IsPlaced edges)) (one_placed edges) texts) (λ forwards.
+    then_one _ _ (each_one ForwardEdge (IsAtEdge edges) (HasNone (IsAtEdge edges)) (one_placed edges) texts) (λ forwards.
     barring_one (forward_fault rules edges forwards) _ (exactly_one _))
 
 one_moves : (place : ℕ) (dmr : Dmr) (rules : List Rule) (texts : List ChangeText) → IsOne (moves_from place dmr rules texts)

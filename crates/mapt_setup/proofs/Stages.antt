@@ -30,7 +30,7 @@ use Rattle.mapt_setup.specs.Change.{IsChange}
 use Rattle.mapt_setup.specs.Origin.{given_by}
 use Rattle.mapt_setup.specs.Shapes.{HasParts, BreaksShape, book_of}
 use Rattle.mapt_setup.specs.Crowd.{edge_fault}
-use Rattle.mapt_setup.specs.Claims.{IsPlaced, forward_fault, forwards_of}
+use Rattle.mapt_setup.specs.Claims.{IsAtEdge, forward_fault, forwards_of}
 use Rattle.mapt_setup.specs.Moves.{order_fault, moves_from, changes_of}
 use Rattle.mapt_setup.specs.Tables.{IsDocument, early_fault, listed, tables_of}
 use Rattle.mapt_setup.specs.Setup.{first_book, tables_setup, document_setup, setup_of}
@@ -141,19 +141,19 @@ shaped_book given rules r rs h = goes_on (same_of Book) _ _ rules r rs h
 -- ---- forwards and changes
 
 pub bad_place : (rules : List Rule) (edges : List EdgeLine) (texts : List ForwardText) (e : SetupFault)
-    → Gives (same_of (List ForwardLine)) (Err e) (each ForwardEdge (IsPlaced edges) (HasNone (IsPlaced edges)) texts)
+    → Gives (same_of (List ForwardLine)) (Err e) (each ForwardEdge (IsAtEdge edges) (HasNone (IsAtEdge edges)) texts)
     → Gives (same_of (List ForwardLine)) (Err e) (forwards_of rules edges texts)
 unfolding forwards_of
 bad_place rules edges texts e h = stops (same_of (List ForwardLine)) (same_of (List ForwardLine)) _ _ e h
 
 pub bad_claim : (rules : List Rule) (edges : List EdgeLine) (texts : List ForwardText) (forwards : List ForwardLine) (e : SetupFault)
-    → each ForwardEdge (IsPlaced edges) (HasNone (IsPlaced edges)) texts (Ok forwards) → forward_fault rules edges forwards ≡ Some e
+    → each ForwardEdge (IsAtEdge edges) (HasNone (IsAtEdge edges)) texts (Ok forwards) → forward_fault rules edges forwards ≡ Some e
     → Gives (same_of (List ForwardLine)) (Err e) (forwards_of rules edges texts)
 unfolding forwards_of
 bad_claim rules edges texts forwards e f h = goes_on (same_of (List ForwardLine)) _ _ forwards (Err e) f (bars (same_of (List ForwardLine)) _ _ e h)
 
 pub good_forwards : (rules : List Rule) (edges : List EdgeLine) (texts : List ForwardText) (forwards : List ForwardLine)
-    → each ForwardEdge (IsPlaced edges) (HasNone (IsPlaced edges)) texts (Ok forwards) → forward_fault rules edges forwards ≡ None
+    → each ForwardEdge (IsAtEdge edges) (HasNone (IsAtEdge edges)) texts (Ok forwards) → forward_fault rules edges forwards ≡ None
     → forwards_of rules edges texts (Ok forwards)
 unfolding forwards_of
 good_forwards rules edges texts forwards f none = goes_on (same_of (List ForwardLine)) _ _ forwards (Ok forwards) f (passes (same_of (List ForwardLine)) _ _ (Ok forwards) none refl)

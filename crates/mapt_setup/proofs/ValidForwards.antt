@@ -19,7 +19,7 @@ use Rattle.mapt_setup.specs.declared.forward.ForwardText.{ForwardText}
 use Rattle.mapt_setup.specs.declared.forward.ForwardLine.{ForwardLine}
 use Rattle.mapt_setup.specs.Beside.{first_after, FailsBefore}
 use Rattle.mapt_setup.specs.Forward.{HasBinding, most_until, never}
-use Rattle.mapt_setup.specs.Claims.{edge_place, IsPlaced, holder_at, may_claim, is_unclaimable, host_end, collides, is_taken, forward_fault}
+use Rattle.mapt_setup.specs.Claims.{edge_place, IsAtEdge, holder_of_edge, may_claim, is_unclaimable, host_end, collides, is_taken, forward_fault}
 use Rattle.mapt_setup.specs.Valid.{IsValidForward, AreValidForwards}
 use Rattle.mapt_setup.specs.declared.fault.SetupCause.TheVariants.{ForwardPort, ForwardTwice}
 use Rattle.mapt_setup.specs.declared.fault.SetupFault.TheVariants.{Refused}
@@ -49,11 +49,11 @@ pub record IsKept (b : Binding) : Type 0 where
   pub live : b.live ≡ false
   pub deadline : (b.deadline ≤ most_until) ⊎ (b.deadline ≡ never)
 
-kept_placed : (edges : List EdgeLine) (text : ForwardText) (forward : ForwardLine) → IsKept text.binding → IsPlaced edges text forward → IsKept forward.binding × (forward.edge < length edges)
+kept_placed : (edges : List EdgeLine) (text : ForwardText) (forward : ForwardLine) → IsKept text.binding → IsAtEdge edges text forward → IsKept forward.binding × (forward.edge < length edges)
 kept_placed edges text forward kept is =
     (subst IsKept (sym is.binding) kept, ((position-exactly _ edges forward.edge).0 is.edge).within)
 
-claimable : (rules : List Rule) (edges : List EdgeLine) (forwards : List ForwardLine) → position (is_unclaimable rules edges) forwards ≡ None → All (λ f. IsTrue (may_claim (holder_at rules edges f.edge) f.binding.port)) forwards
+claimable : (rules : List Rule) (edges : List EdgeLine) (forwards : List ForwardLine) → position (is_unclaimable rules edges) forwards ≡ None → All (λ f. IsTrue (may_claim (holder_of_edge rules edges f.edge) f.binding.port)) forwards
 claimable rules edges forwards none k d within = not_false _ (position-none (is_unclaimable rules edges) forwards none k d within)
 
 -- ---- two forwards
@@ -63,7 +63,7 @@ same_protos Tcp q e = subst (λ (z : Proto). same_proto Tcp z ≡ true) e refl
 same_protos Udp q e = subst (λ (z : Proto). same_proto Udp z ≡ true) e refl
 same_protos Icmp q e = subst (λ (z : Proto). same_proto Icmp z ≡ true) e refl
 
-all_fail : {A : Type 0} (test : A → Bool) (xs : List A) → ¬ (list_any test xs ≡ true) → (j : ℕ) (d : A) → j < length xs → ¬ (test (get_or xs j d) ≡ true)
+pub all_fail : {A : Type 0} (test : A → Bool) (xs : List A) → ¬ (list_any test xs ≡ true) → (j : ℕ) (d : A) → j < length xs → ¬ (test (get_or xs j d) ≡ true)
 all_fail test [] never j d within pass = omega arith
 all_fail test (x ∷ xs) never zero d within pass = never (ap (λ b. b || list_any test xs) pass)
 all_fail test (x ∷ xs) never (suc j) d within pass = all_fail test xs (λ rest. never (or_right (test x) rest)) j d (omega arith) pass
@@ -102,12 +102,12 @@ apart forwards none i j d before within =
 -- ---- the whole
 
 pub valid_forwards : (rules : List Rule) (edges : List EdgeLine) (texts : List ForwardText) (forwards : List ForwardLine)
-    → length forwards ≤ 256 → All (λ t. IsKept t.binding) texts → AllZip (IsPlaced edges) texts forwards → forward_fault rules edges forwards ≡ None
+    → length forwards ≤ 256 → All (λ t. IsKept t.binding) texts → AllZip (IsAtEdge edges) texts forwards → forward_fault rules edges forwards ≡ None
     → AreValidForwards rules edges forwards
 valid_forwards rules edges texts forwards few kept placed none =
     let both = both_none _ _ none in
     let ports = claimable rules edges forwards (map-None (Refused ForwardPort) _ both.0) in
-    let parts = all_given (λ t. IsKept t.binding) (IsPlaced edges) (λ f. IsKept f.binding × (f.edge < length edges)) (kept_placed edges) texts forwards kept placed in
+    let parts = all_given (λ t. IsKept t.binding) (IsAtEdge edges) (λ f. IsKept f.binding × (f.edge < length edges)) (kept_placed edges) texts forwards kept placed in
     record {
       few = few;
       each = λ k d within. record {

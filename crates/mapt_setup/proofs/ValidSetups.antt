@@ -27,7 +27,7 @@ use Rattle.mapt_setup.specs.EdgeName.{is_edge_name, named}
 use Rattle.mapt_setup.specs.Edge.{IsEdge, IsEdgeTable}
 use Rattle.mapt_setup.specs.Forward.{HasBinding, IsForward, IsForwardTable, most_until, never}
 use Rattle.mapt_setup.specs.Change.{IsChange, IsChangeTable, most_at}
-use Rattle.mapt_setup.specs.Claims.{IsPlaced, forward_fault, forwards_of}
+use Rattle.mapt_setup.specs.Claims.{IsAtEdge, forward_fault, forwards_of}
 use Rattle.mapt_setup.specs.Crowd.{edge_fault, AreApart}
 use Rattle.mapt_setup.specs.Moves.{order_fault, moves_from, changes_of}
 use Rattle.mapt_setup.specs.Shapes.{HasParts, BreaksShape, IsFirstBook, refused_by, book_of}
@@ -177,7 +177,7 @@ unfolding forwards_of
 claimed rules edges texts forwards few kept h =
     let last = passed (forward_fault rules edges h.value) (exactly (Ok h.value)) forwards h.rest in
     let same : h.value ≡ forwards = the_same h.value forwards last.1 in
-    let valid : AreValidForwards rules edges h.value = valid_forwards rules edges texts h.value (omega (arith, few, length-AllZip (IsPlaced edges) texts h.value h.stage)) kept h.stage last.0 in
+    let valid : AreValidForwards rules edges h.value = valid_forwards rules edges texts h.value (omega (arith, few, length-AllZip (IsAtEdge edges) texts h.value h.stage)) kept h.stage last.0 in
     subst (λ (fs : List ForwardLine). AreValidForwards rules edges fs) same valid
 
 moved : (dmr : Dmr) (rules : List Rule) (texts : List ChangeText) (moves : List MoveLine) → length texts ≤ 64 → All (λ t. t.at ≤ most_at) texts → changes_of dmr rules texts (Ok moves) → AreValidChanges dmr rules moves

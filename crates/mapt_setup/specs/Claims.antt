@@ -22,13 +22,13 @@ abbrev pub edge_place : List ℕ → List EdgeLine → Option ℕ
 edge_place name edges = position (λ edge. pointwise nat_eq edge.name name) edges
 
 -- the forward is at the edge that the text names, with the text's binding
-pub record IsPlaced (edges : List EdgeLine) (text : ForwardText) (forward : ForwardLine) : Type 0 where
+pub record IsAtEdge (edges : List EdgeLine) (text : ForwardText) (forward : ForwardLine) : Type 0 where
   pub edge : edge_place text.edge edges ≡ Some forward.edge
   pub binding : forward.binding ≡ text.binding
 
 -- what an edge holds under these rules, by its place
-abbrev pub holder_at : List Rule → List EdgeLine → ℕ → Option Holder
-holder_at rules edges place = option_and_then (λ (edge : EdgeLine). holder_of rules edge.prefix) (slice_get edges place)
+abbrev pub holder_of_edge : List Rule → List EdgeLine → ℕ → Option Holder
+holder_of_edge rules edges place = option_and_then (λ (edge : EdgeLine). holder_of rules edge.prefix) (slice_get edges place)
 
 -- a port may be claimed there
 abbrev pub may_claim : Option Holder → ℕ → Bool
@@ -37,7 +37,7 @@ may_claim (Some holder) port = is_claimable_by holder port
 
 -- a forward's edge may not claim its port
 abbrev pub is_unclaimable : List Rule → List EdgeLine → ForwardLine → Bool
-is_unclaimable rules edges forward = not (may_claim (holder_at rules edges forward.edge) forward.binding.port)
+is_unclaimable rules edges forward = not (may_claim (holder_of_edge rules edges forward.edge) forward.binding.port)
 
 -- the host's end of a binding
 abbrev pub host_end : Binding → End4
@@ -60,5 +60,5 @@ forward_fault rules edges forwards =
 -- the forwards of these texts at their edges
 unfoldable pub forwards_of : List Rule → List EdgeLine → List ForwardText → Result (List ForwardLine) SetupFault → Type 0
 forwards_of rules edges texts = do
-  forwards ← each ForwardEdge (IsPlaced edges) (HasNone (IsPlaced edges)) texts
+  forwards ← each ForwardEdge (IsAtEdge edges) (HasNone (IsAtEdge edges)) texts
   barring (forward_fault rules edges forwards) (exactly (Ok forwards))

@@ -14,13 +14,13 @@ abbrev pub forward_keys : List (List ℕ)
 forward_keys = codes "edge" ∷ codes "proto" ∷ codes "port" ∷ codes "host" ∷ codes "host_port" ∷ codes "until" ∷ []
 
 -- the protocol of a word
-abbrev pub proto_of : List ℕ → Option Proto
-proto_of word =
+abbrev pub proto_named : List ℕ → Option Proto
+proto_named word =
     if pointwise nat_eq word (codes "udp") then Some Udp else (if pointwise nat_eq word (codes "tcp") then Some Tcp else (if pointwise nat_eq word (codes "icmp") then Some Icmp else None))
 
 -- the protocol at a key
 abbrev pub proto_at : List ℕ → Members → Option Proto
-proto_at key ms = option_and_then proto_of (text_at key ms)
+proto_at key ms = option_and_then proto_named (text_at key ms)
 
 -- the greatest time at which a forward may end, and the one at which it ends where none is given, in microseconds
 abbrev pub most_until : ℕ

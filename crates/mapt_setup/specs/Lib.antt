@@ -19,3 +19,5 @@ pub mod Few
 pub mod Setup
 pub mod Generation
 pub mod Valid
+pub mod Fit
+pub mod Script

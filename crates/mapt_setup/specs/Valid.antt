@@ -18,7 +18,7 @@ use Rattle.mapt_setup.specs.EdgeName.{is_edge_name}
 use Rattle.mapt_setup.specs.Crowd.{AreApart}
 use Rattle.mapt_setup.specs.Forward.{most_until, never}
 use Rattle.mapt_setup.specs.Change.{most_at}
-use Rattle.mapt_setup.specs.Claims.{holder_at, may_claim}
+use Rattle.mapt_setup.specs.Claims.{holder_of_edge, may_claim}
 
 -- at most 256 edges, each with a name of its own, whose prefixes have at most 64 bits and overlap neither one
 -- another nor that of the default mapping rule
@@ -31,7 +31,7 @@ pub record AreValidEdges (edges : List EdgeLine) (dmr : Dmr) : Type 0 where
 -- before 2^62 microseconds or never
 pub record IsValidForward (rules : List Rule) (edges : List EdgeLine) (forward : ForwardLine) : Type 0 where
   pub edge : forward.edge < length edges
-  pub port : IsTrue (may_claim (holder_at rules edges forward.edge) forward.binding.port)
+  pub port : IsTrue (may_claim (holder_of_edge rules edges forward.edge) forward.binding.port)
   pub kept : forward.binding.kept ≡ true
   pub live : forward.binding.live ≡ false
   pub deadline : (forward.binding.deadline ≤ most_until) ⊎ (forward.binding.deadline ≡ never)

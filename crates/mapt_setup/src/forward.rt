@@ -1,7 +1,7 @@
 ghost use Rattle.std.specs.Prelude.{◌≡◌, ◌≤◌, ◌++◌, ◌∷◌, [], map, length, IfSome, IfNone, IfOk, OnOk, OnErr};
 ghost use Rattle.toml.specs.View.{view, table_view};
 ghost use Rattle.mapt_setup.specs.Answer.{Gives, HasNone, each};
-ghost use Rattle.mapt_setup.specs.Forward.{proto_of, proto_at, HasBinding};
+ghost use Rattle.mapt_setup.specs.Forward.{proto_named, proto_at, HasBinding};
 
 use crate::edge::bytes_of;
 use crate::keys::{has_only, long_or, number_at, text_at};
@@ -100,8 +100,8 @@ impl Forwards {
 }
 
 /// The protocol of a word.
-fn proto_of(word: &str) -> Option<Proto>
-    ensures { result ≡ proto_of word.now }
+fn proto_named(word: &str) -> Option<Proto>
+    ensures { result ≡ proto_named word.now }
 {
     if word == "udp" {
         return Some(Proto::Udp);
@@ -119,7 +119,7 @@ fn proto_of(word: &str) -> Option<Proto>
 fn proto_at(table: &Table, key: &str) -> Option<Proto>
     ensures { result ≡ proto_at key.now (table_view table.now) }
 {
-    proto_of(text_at(table, key)?)
+    proto_named(text_at(table, key)?)
 }
 
 /// The binding that a table says.

@@ -1,7 +1,8 @@
 //! What holds of configurations beyond one call. Each law is the contract of a function that
 //! does nothing.
 
-ghost use Rattle.std.specs.Prelude.{◌≡◌, ◌↔◌, ℕ, List, IsTrue, Some, None, Result};
+ghost use Rattle.std.specs.Prelude.{◌≡◌, ◌↔◌, ◌+◌, ℕ, List, length, not, IsTrue, Some, None, Result};
+ghost use Rattle.std.specs.List.{filter, flat_map, count_by};
 ghost use Rattle.octets.specs.Place.{IsFirstPlace};
 ghost use Rattle.map_rules.specs.declared.dmr.Dmr.{Dmr as DmrType};
 ghost use Rattle.mapt_setup.specs.declared.edge.EdgeLine.{EdgeLine as EdgeType};
@@ -13,6 +14,10 @@ ghost use Rattle.mapt_setup.specs.Beside.{IsFirstBeside};
 ghost use Rattle.mapt_setup.specs.declared.setup.Setup.{Setup as SetupType};
 ghost use Rattle.mapt_setup.specs.declared.fault.SetupFault.{SetupFault as SetupFaultType};
 ghost use Rattle.mapt_setup.specs.Setup.{setup_of};
+ghost use Rattle.mapt_setup.specs.declared.capture.Capture.{Capture as CaptureType};
+ghost use Rattle.mapt_setup.specs.declared.moves.MoveLine.{MoveLine as MoveType};
+ghost use Rattle.mapt_setup.specs.declared.script.ScriptItem.{ScriptItem as ItemType};
+ghost use Rattle.mapt_setup.specs.Script.{IsScript, is_still, segments_of};
 
 use crate::{SetupCause, SetupFault};
 
@@ -40,4 +45,20 @@ pub fn refused_edges_are_the_first()
 pub fn equal_faults_are_the_same()
     ensures cause { (one other : CauseType) → IsTrue (⟦<SetupCause as PartialEq>⟧.eq one other) ↔ (one ≡ other) }
     ensures fault { (one other : SetupFaultType) → IsTrue (⟦<SetupFault as PartialEq>⟧.eq one other) ↔ (one ≡ other) }
+{}
+
+/// A setup's changes and captures have at most one script.
+pub fn a_script_is_one()
+    ensures { (changes : List MoveType) (captures : List CaptureType) (one other : List ItemType)
+        → IsScript changes captures one
+        → IsScript changes captures other
+        → one ≡ other }
+{}
+
+/// There is one segment more than there are changes that aren't live, and the segments together have all items
+/// but these.
+pub fn still_changes_end_segments()
+    ensures count { (items : List ItemType) → length (segments_of items) ≡ 1 + count_by is_still items }
+    ensures items { (items : List ItemType)
+        → flat_map (λ segment. segment) (segments_of items) ≡ filter (λ item. not (is_still item)) items }
 {}
