@@ -1,5 +1,9 @@
-use super::{Setup, SetupCause, SetupFault};
-use octets::Addr4;
+ghost use Rattle.std.specs.Prelude.{IfOk};
+ghost use Rattle.mapt_setup.specs.Valid.{IsValidSetup};
+
+use super::{Capture, Script, ScriptItem, Setup, SetupCause, SetupFault, Side, captures_fit};
+use octets::{Addr4, Bytes, NoMemory};
+use pcap_files::{Records, Writer, read};
 use rule_book::RuleView;
 use std::alloc::{AllocError, Global};
 use std::test::Fail;
@@ -319,5 +323,467 @@ fn too_many_tables_are_told(rt: HostRuntime) -> Result<(), Fail> {
             0
         )?
     );
+    Ok(())
+}
+
+/// The home's configuration with these tables behind it is refused for this cause at this place.
+fn home_refuses(
+    alloc: Global,
+    first: &str,
+    second: &str,
+    cause: SetupCause,
+    place: u32,
+) -> Result<bool, AllocError> {
+    let mut text = String::from_str(alloc, RULE)?;
+    text.push_str(EDGE)?;
+    text.push_str(first)?;
+    is_refused(alloc, DOMAIN, text.as_str(), second, cause, place)
+}
+
+/// A list of one table: each of these keys with its value, or with another where it is the one that is named. A
+/// key without a value is left out.
+fn table(
+    alloc: Global,
+    list: &str,
+    keys: &[(&str, &str)],
+    named: &str,
+    other: &str,
+) -> Result<String, AllocError> {
+    let mut text = String::from_str(alloc, "[[")?;
+    text.push_str(list)?;
+    text.push_str("]]\n")?;
+    for (key, kept) in keys {
+        let value = if *key == named { other } else { *kept };
+        if !value.is_empty() {
+            text.push_str(key)?;
+            text.push_str(" = ")?;
+            text.push_str(value)?;
+            text.push_str("\n")?;
+        }
+    }
+    Ok(text)
+}
+
+/// Whether each of these other values makes the home's configuration with such a table refused for this cause.
+fn all_refuse(
+    alloc: Global,
+    list: &str,
+    keys: &[(&str, &str)],
+    others: &[(&str, &str)],
+    cause: SetupCause,
+) -> Result<bool, AllocError> {
+    for (named, other) in others {
+        let text = table(alloc, list, keys, named, other)?;
+        if !home_refuses(alloc, text.as_str(), "", cause, 0)? {
+            return Ok(false);
+        }
+    }
+    Ok(true)
+}
+
+const FORWARD: [(&str, &str); 7] = [
+    ("edge", "\"home\""),
+    ("proto", "\"udp\""),
+    ("port", "1232"),
+    ("host", "\"192.168.1.20\""),
+    ("host_port", "8080"),
+    ("until", ""),
+    ("live", ""),
+];
+
+/// Each key missing, of another type, out of its range at both ends, or unknown.
+const NO_FORWARD: [(&str, &str); 20] = [
+    ("edge", ""),
+    ("edge", "1"),
+    ("proto", ""),
+    ("proto", "17"),
+    ("proto", "\"sctp\""),
+    ("port", ""),
+    ("port", "\"1\""),
+    ("port", "-1"),
+    ("port", "65536"),
+    ("host", ""),
+    ("host", "1"),
+    ("host", "\"192.168.1.256\""),
+    ("host_port", ""),
+    ("host_port", "1.0"),
+    ("host_port", "-1"),
+    ("host_port", "65536"),
+    ("until", "-1"),
+    ("until", "4611686018427387904"),
+    ("until", "\"1\""),
+    ("live", "true"),
+];
+
+/// Names that no edge has, and one that none may have.
+const NO_EDGE: [(&str, &str); 3] = [
+    ("edge", "\"shed\""),
+    ("edge", "\"\""),
+    ("edge", "\"No Name\""),
+];
+
+/// Port 0, the last one, and those beside the home's.
+const NO_PORT: [(&str, &str); 4] = [
+    ("port", "0"),
+    ("port", "1231"),
+    ("port", "1236"),
+    ("port", "65535"),
+];
+
+#[test]
+fn forwards_that_are_none(rt: HostRuntime) -> Result<(), Fail> {
+    let alloc = rt.alloc();
+    let bad = SetupCause::BadForward;
+    assert!(rt; all_refuse(alloc, "forward", &FORWARD, &NO_FORWARD, bad)?);
+    assert!(rt;
+        all_refuse(
+            alloc,
+            "forward",
+            &FORWARD,
+            &NO_EDGE,
+            SetupCause::ForwardEdge
+        )?
+    );
+    assert!(rt;
+        all_refuse(
+            alloc,
+            "forward",
+            &FORWARD,
+            &NO_PORT,
+            SetupCause::ForwardPort
+        )?
+    );
+    assert!(rt; is_refused(alloc, "forward = 1\n", DOMAIN, "", bad, 0)?);
+    assert!(rt; is_refused(alloc, "forward = [1]\n", DOMAIN, "", bad, 0)?);
+    Ok(())
+}
+
+const REMOVE: [(&str, &str); 6] = [
+    ("at", "0"),
+    ("action", "\"remove\""),
+    ("live", ""),
+    ("prefix6", "\"2001:db8::/40\""),
+    ("rule", ""),
+    ("until", ""),
+];
+
+const NO_REMOVE: [(&str, &str); 14] = [
+    ("at", ""),
+    ("at", "\"0\""),
+    ("at", "-1"),
+    ("at", "4503599627370496"),
+    ("action", ""),
+    ("action", "1"),
+    ("action", "\"drop\""),
+    ("action", "\"add\""),
+    ("action", "\"replace\""),
+    ("live", "1"),
+    ("prefix6", ""),
+    ("prefix6", "1"),
+    ("prefix6", "\"2001:db8::1/40\""),
+    ("until", "1"),
+];
+
+const ADD: [(&str, &str); 5] = [
+    ("at", "0"),
+    ("action", "\"add\""),
+    ("prefix6", ""),
+    (
+        "rule",
+        "{ prefix6 = \"2001:db8:100::/40\", prefix4 = \"203.0.113.0/24\", ea = 16 }",
+    ),
+    ("live", "true"),
+];
+
+/// Beside the rule an unknown key; no rule, no table, and a rule with a key that isn't as it should be.
+const NO_ADD: [(&str, &str); 7] = [
+    ("prefix6", "\"2001:db8::/40\""),
+    ("action", "\"remove\""),
+    ("action", "\"replace\""),
+    ("rule", ""),
+    ("rule", "1"),
+    ("rule", "{ prefix6 = \"2001:db8:100::/40\", ea = 16 }"),
+    (
+        "rule",
+        "{ prefix6 = \"2001:db8:100::/40\", prefix4 = \"203.0.113.0/24\", ea = 256 }",
+    ),
+];
+
+/// A rule that breaks a shape rule, one that stands, and those that overlap it or the default mapping rule.
+const REFUSED_ADD: [(&str, &str); 5] = [
+    (
+        "rule",
+        "{ prefix6 = \"2001:db8:100::/40\", prefix4 = \"203.0.113.0/24\", ea = 7 }",
+    ),
+    (
+        "rule",
+        "{ prefix6 = \"2001:db8::/40\", prefix4 = \"192.0.2.0/24\", ea = 16 }",
+    ),
+    (
+        "rule",
+        "{ prefix6 = \"2001:db8:100::/40\", prefix4 = \"192.0.2.128/25\", ea = 16 }",
+    ),
+    (
+        "rule",
+        "{ prefix6 = \"2001:db8:80::/41\", prefix4 = \"203.0.113.0/24\", ea = 16 }",
+    ),
+    (
+        "rule",
+        "{ prefix6 = \"2001:db8:ffff::/48\", prefix4 = \"203.0.113.0/24\", ea = 16 }",
+    ),
+];
+
+#[test]
+fn changes_that_are_none(rt: HostRuntime) -> Result<(), Fail> {
+    let alloc = rt.alloc();
+    let (bad, refused) = (SetupCause::BadChange, SetupCause::ChangeRefused);
+    assert!(rt; all_refuse(alloc, "change", &REMOVE, &NO_REMOVE, bad)?);
+    assert!(rt;
+        all_refuse(
+            alloc,
+            "change",
+            &REMOVE,
+            &[("prefix6", "\"2001:db8::/41\"")],
+            refused
+        )?
+    );
+    assert!(rt; all_refuse(alloc, "change", &ADD, &NO_ADD, bad)?);
+    assert!(rt; all_refuse(alloc, "change", &ADD, &REFUSED_ADD, refused)?);
+    assert!(rt; is_refused(alloc, "change = 1\n", DOMAIN, "", bad, 0)?);
+    assert!(rt; is_refused(alloc, "change = [1]\n", DOMAIN, "", bad, 0)?);
+    Ok(())
+}
+
+const WEB: &str =
+    "[[forward]]\nedge = \"home\"\nproto = \"udp\"\nport = 1232\nhost = \"192.168.1.20\"\nhost_port = 80\n";
+
+const SAME_PORT: &str =
+    "[[forward]]\nedge = \"home\"\nproto = \"udp\"\nport = 1232\nhost = \"192.168.1.21\"\nhost_port = 80\n";
+
+const SAME_END: &str =
+    "[[forward]]\nedge = \"home\"\nproto = \"udp\"\nport = 1233\nhost = \"192.168.1.20\"\nhost_port = 80\n";
+
+const SHED: &str =
+    "[[forward]]\nedge = \"shed\"\nproto = \"udp\"\nport = 0\nhost = \"192.168.1.20\"\nhost_port = 80\n";
+
+const PORT_0: &str =
+    "[[forward]]\nedge = \"home\"\nproto = \"udp\"\nport = 0\nhost = \"192.168.1.20\"\nhost_port = 80\n";
+
+const TAKES: &str = "[[change]]\nat = 5\naction = \"remove\"\nprefix6 = \"2001:db8::/40\"\n";
+
+const TAKES_EARLY: &str = "[[change]]\nat = 4\naction = \"remove\"\nprefix6 = \"2001:db8::/40\"\n";
+
+const TAKES_NONE: &str =
+    "[[change]]\nat = 5\naction = \"remove\"\nprefix6 = \"2001:db8:100::/40\"\n";
+
+/// Two tables at odds, or two faults, of which the one whose cause comes first is told.
+#[test]
+fn the_earlier_cause_of_forwards_is_told(rt: HostRuntime) -> Result<(), Fail> {
+    let alloc = rt.alloc();
+    assert!(rt; home_refuses(alloc, WEB, SAME_PORT, SetupCause::ForwardTwice, 1)?);
+    assert!(rt; home_refuses(alloc, WEB, SAME_END, SetupCause::ForwardTwice, 1)?);
+    assert!(rt; home_refuses(alloc, PORT_0, SHED, SetupCause::ForwardEdge, 1)?);
+    assert!(rt; home_refuses(alloc, PORT_0, PORT_0, SetupCause::ForwardPort, 0)?);
+    assert!(rt; home_refuses(alloc, SHED, EDGE_OVER_DMR, SetupCause::EdgeOverDmr, 1)?);
+    assert!(rt; home_refuses(alloc, SHED, "[[forward]]\n", SetupCause::BadForward, 1)?);
+    Ok(())
+}
+
+#[test]
+fn the_earlier_cause_of_changes_is_told(rt: HostRuntime) -> Result<(), Fail> {
+    let alloc = rt.alloc();
+    assert!(rt; home_refuses(alloc, TAKES, TAKES, SetupCause::ChangeRefused, 1)?);
+    assert!(rt; home_refuses(alloc, TAKES, TAKES_EARLY, SetupCause::ChangeOrder, 1)?);
+    assert!(rt; home_refuses(alloc, TAKES_NONE, TAKES_EARLY, SetupCause::ChangeOrder, 1)?);
+    assert!(rt; home_refuses(alloc, TAKES_NONE, PORT_0, SetupCause::ForwardPort, 0)?);
+    assert!(rt;
+        home_refuses(
+            alloc,
+            "[[change]]\n",
+            "[[forward]]\n",
+            SetupCause::BadForward,
+            0
+        )?
+    );
+    assert!(rt; is_refused(alloc, ODD, "[[change]]\n", "", SetupCause::BadChange, 0)?);
+    Ok(())
+}
+
+#[test]
+fn too_many_forwards_and_changes_are_told(rt: HostRuntime) -> Result<(), Fail> {
+    let alloc = rt.alloc();
+    let (forward, change) = ("[[forward]]\n", "[[change]]\n");
+    let most = many(alloc, forward, 256)?;
+    assert!(rt; is_refused(alloc, DOMAIN, most.as_str(), "", SetupCause::BadForward, 0)?);
+    assert!(rt;
+        is_refused(
+            alloc,
+            "x = 1\n",
+            most.as_str(),
+            forward,
+            SetupCause::TooMany,
+            0
+        )?
+    );
+    let most = many(alloc, change, 64)?;
+    assert!(rt; is_refused(alloc, DOMAIN, most.as_str(), "", SetupCause::BadChange, 0)?);
+    assert!(rt;
+        is_refused(
+            alloc,
+            "x = 1\n",
+            most.as_str(),
+            change,
+            SetupCause::TooMany,
+            0
+        )?
+    );
+    Ok(())
+}
+
+/// Forwards at the least and the greatest times and ports, two of one port and one host's end in two protocols.
+const FORWARDS: &str =
+    "[[forward]]\nedge = \"home\"\nproto = \"udp\"\nport = 1232\nhost = \"192.168.1.20\"\nhost_port = 0\nuntil = 0\n[[forward]]\nedge = \"home\"\nproto = \"tcp\"\nport = 1232\nhost = \"192.168.1.20\"\nhost_port = 0\nuntil = 4611686018427387903\n";
+
+const PING: &str =
+    "[[forward]]\nedge = \"home\"\nproto = \"icmp\"\nport = 64723\nhost = \"192.168.1.20\"\nhost_port = 65535\n";
+
+const ADDS: &str =
+    "[[change]]\nat = 0\naction = \"add\"\nlive = true\nrule = { prefix6 = \"2001:db8:100::/40\", prefix4 = \"203.0.113.0/24\", ea = 16, offset = 4, forward = true }\n";
+
+const REPLACES: &str =
+    "[[change]]\nat = 10\naction = \"replace\"\nprefix6 = \"2001:db8::/40\"\nrule = { prefix6 = \"2001:db8:200::/40\", prefix4 = \"192.0.2.0/24\", ea = 8 }\n";
+
+const REMOVES: &str =
+    "[[change]]\nat = 4503599627370495\naction = \"remove\"\nprefix6 = \"2001:db8:200::/40\"\n";
+
+/// The home's configuration with these.
+fn whole(alloc: Global) -> Result<Setup, SetupFault>
+    ensures { IfOk result IsValidSetup }
+{
+    let mut text = String::from_str(alloc, DOMAIN)?;
+    text.push_str(RULE)?;
+    text.push_str(EDGE)?;
+    text.push_str(FORWARDS)?;
+    text.push_str(PING)?;
+    text.push_str(ADDS)?;
+    text.push_str(REPLACES)?;
+    text.push_str(REMOVES)?;
+    Setup::read(alloc, text.as_bytes())
+}
+
+/// Whether the rules of a generation are printed so.
+fn prints(alloc: Global, setup: &Setup, generation: u32, text: &[u8]) -> Result<bool, SetupFault>
+    requires { IsValidSetup setup.now }
+{
+    let book = setup.book(alloc, generation)?;
+    Ok(book.text(alloc)?.as_slice() == text)
+}
+
+#[test]
+fn each_generation_has_its_rules(rt: HostRuntime) -> Result<(), Fail> {
+    let alloc = rt.alloc();
+    let setup = whole(alloc)?;
+    let first =
+        b"dmr 2001:db8:ffff::/64\nrule 2001:db8::/40 192.0.2.0/24 ea 16 offset 6 forward 0\n";
+    assert!(rt; prints(alloc, &setup, 0, first.as_slice())?);
+    let second =
+        b"dmr 2001:db8:ffff::/64\nrule 2001:db8::/40 192.0.2.0/24 ea 16 offset 6 forward 0\nrule 2001:db8:100::/40 203.0.113.0/24 ea 16 offset 4 forward 1\n";
+    assert!(rt; prints(alloc, &setup, 1, second.as_slice())?);
+    let third =
+        b"dmr 2001:db8:ffff::/64\nrule 2001:db8:200::/40 192.0.2.0/24 ea 8 offset 6 forward 0\nrule 2001:db8:100::/40 203.0.113.0/24 ea 16 offset 4 forward 1\n";
+    assert!(rt; prints(alloc, &setup, 2, third.as_slice())?);
+    let fourth =
+        b"dmr 2001:db8:ffff::/64\nrule 2001:db8:100::/40 203.0.113.0/24 ea 16 offset 4 forward 1\n";
+    assert!(rt; prints(alloc, &setup, 3, fourth.as_slice())?);
+    let none = SetupFault::Refused(SetupCause::NoGeneration, 4);
+    assert!(rt; setup.book(alloc, 4).err() == Some(none));
+    Ok(())
+}
+
+#[test]
+fn forwards_are_bindings_of_their_edges(rt: HostRuntime) -> Result<(), Fail> {
+    let setup = whole(rt.alloc())?;
+    let [first, second, third] = setup.forwards.as_slice() else {
+        return Err(Fail::from("there aren't three forwards"));
+    };
+    assert!(rt; first.edge == 0 && first.binding.port == 1232 && first.binding.deadline == 0);
+    assert!(rt; first.binding.kept && !first.binding.live);
+    assert!(rt; second.binding.host == Addr4(0xc0a8_0114) && second.binding.host_port == 0);
+    assert!(rt; second.binding.deadline == 4_611_686_018_427_387_903);
+    assert!(rt;
+        third.binding.host_port == 65_535 && third.binding.deadline == 9_223_372_036_854_775_807
+    );
+    Ok(())
+}
+
+/// A capture of packets of one octet each, at these times.
+fn records(alloc: Global, packets: &[(u32, u8)]) -> Result<Records, Fail> {
+    let mut writer = Writer::new(alloc)?;
+    for (time, octet) in packets {
+        writer.add(u64::from(*time), &[*octet])?;
+    }
+    Ok(read(alloc, writer.as_slice(), 200_000)?)
+}
+
+/// The octet of each record, and the number of each change.
+fn trail(alloc: Global, script: &Script) -> Result<Bytes, NoMemory> {
+    let mut trail = Bytes::new(alloc);
+    for item in script.as_slice() {
+        match item {
+            ScriptItem::Rec { bytes, .. } => trail.extend(bytes.as_slice())?,
+            ScriptItem::Move { number: 1, .. } => trail.push(b'1')?,
+            ScriptItem::Move { number: 2, .. } => trail.push(b'2')?,
+            ScriptItem::Move { .. } => trail.push(b'3')?,
+        }
+    }
+    Ok(trail)
+}
+
+/// The core's capture stands first and its times fall; three captures have a packet at the times of changes.
+#[test]
+fn a_script_is_in_the_order_of_time_and_kind(rt: HostRuntime) -> Result<(), Fail> {
+    let alloc = rt.alloc();
+    let setup = whole(alloc)?;
+    let core = Capture {
+        side: Side::Core,
+        records: records(alloc, &[(10, b'c'), (0, b'd'), (10, b'e')])?,
+    };
+    let access = Capture {
+        side: Side::Access,
+        records: records(alloc, &[(10, b'a'), (11, b'b')])?,
+    };
+    let lan = Capture {
+        side: Side::Lan(0),
+        records: records(alloc, &[(0, b'l'), (10, b'm'), (10, b'n'), (9, b'o')])?,
+    };
+    let captures = [core, access, lan];
+    if !captures_fit(&setup, &captures) {
+        return Err(Fail::from("they don't fit"));
+    }
+    let script = Script::merge(alloc, &setup, &captures)?;
+    assert!(rt; trail(alloc, &script)?.as_slice() == b"1ldo2mnaceb3".as_slice());
+    Ok(())
+}
+
+#[test]
+fn captures_that_do_not_fit(rt: HostRuntime) -> Result<(), Fail> {
+    let alloc = rt.alloc();
+    let setup = whole(alloc)?;
+    let stranger = [Capture {
+        side: Side::Lan(1),
+        records: records(alloc, &[])?,
+    }];
+    assert!(rt; !captures_fit(&setup, &stranger));
+    let twice = [
+        Capture {
+            side: Side::Core,
+            records: records(alloc, &[])?,
+        },
+        Capture {
+            side: Side::Core,
+            records: records(alloc, &[])?,
+        },
+    ];
+    assert!(rt; !captures_fit(&setup, &twice));
     Ok(())
 }
