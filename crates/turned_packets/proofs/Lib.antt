@@ -1,0 +1,3 @@
+mod PutBack
+mod Standing
+mod RightSums

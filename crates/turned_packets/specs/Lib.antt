@@ -1,0 +1,4 @@
+pub mod Ends
+pub mod Segment
+pub mod Embedded
+pub mod Turned
