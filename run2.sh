@@ -1,0 +1,4 @@
+cd /tmp/replay/crates/mapt && rt test
+echo TESTED $?
+rt run -- replay
+echo RAN $?
