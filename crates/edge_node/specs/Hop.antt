@@ -10,8 +10,10 @@ use Rattle.octets.specs.declared.address.Addr6.{Addr6}
 use Rattle.octets.specs.Cause.{number_of}
 use Rattle.ip4_packet.specs.declared.head.Head4.{Head4}
 use Rattle.ip4_packet.specs.Grammar.{payload_of as payload_of4, Is4}
+use Rattle.ip4_packet.specs.Causes.{HasNoCause4}
 use Rattle.ip6_packet.specs.declared.head.Head6.{Head6}
 use Rattle.ip6_packet.specs.Grammar.{payload_of as payload_of6, Is6}
+use Rattle.ip6_packet.specs.Causes.{HasNoCause6}
 use Rattle.octets.specs.declared.proto.Proto.{Proto}
 use Rattle.nat_model.specs.declared.answer.Answer.{Answer}
 use Rattle.nat_model.specs.declared.answer.Answer.TheVariants.{Out, Turn, In, Kept, Held, Refused}
@@ -33,14 +35,9 @@ use Rattle.transit.specs.Hop.{nothing, sends, drops, then, IsCarried, AreFreed}
 use Rattle.turned_packets.specs.Turned.{turned_out, turned_in}
 use Rattle.edge_node.specs.declared.way.Way.{Way}
 use Rattle.edge_node.specs.declared.way.Way.TheVariants.{Lan, Access, Turned}
-use Rattle.edge_node.specs.declared.way.EdgeParams.{EdgeParams}
+use Rattle.edge_node.specs.declared.way.Node.{Node}
 use Rattle.edge_node.specs.Asked.{IsDroppedAt}
 use Rattle.edge_node.specs.Ends.{ends_out, ends_in}
-
--- an edge, and the identification of packets that have none of their own
-pub record Node : Type 0 where
-  pub params : EdgeParams
-  pub id : ℕ
 
 -- the error by which a packet from the LAN is answered: from the edge's own address there
 abbrev pub IsReplyToLan : Node → Cause → List ℕ → Option (List ℕ) → Type 0
@@ -64,6 +61,13 @@ Drops node Lan octets cause hop = (reply : Option (List ℕ)) × IsReplyToLan no
 Drops node Access octets cause hop =
     (reply : Option (List ℕ)) × IsReplyToAccess node cause octets reply × (hop ≡ drops cause ToAccess reply)
 Drops node Turned octets cause hop = hop ≡ drops cause ToLan None
+
+-- the header of the packet can be read, so that an error may answer it
+abbrev pub IsReadable4 : List ℕ → Type 0
+IsReadable4 octets = (h : Head4) × Is4 h (payload_of4 h octets) octets × HasNoCause4 octets
+
+abbrev pub IsReadable6 : List ℕ → Type 0
+IsReadable6 octets = (h : Head6) × Is6 h (payload_of6 h octets) octets × HasNoCause6 octets
 
 -- it goes out, between these addresses and from this port
 abbrev pub GoesOut : Node → List ℕ → ℕ → Addr6 → Addr6 → Packet4 → Hop → Type 0

@@ -3,9 +3,15 @@
 #![tactic(auto)]
 
 mod ask;
+mod drops;
+mod hop;
+mod freed;
+mod inward;
+mod outward;
 mod way;
 
 pub use ask::ask_of;
+pub use hop::emit;
 pub use packet_faults::{Causes, Hop, Out, Outs};
 pub use way::{EdgeParams, Way};
 

@@ -17,3 +17,10 @@ pub struct EdgeParams {
     pub lan: Addr4,
     pub mtus: Mtus,
 }
+
+/// An edge as it emits a packet: what it goes by, and the identification of packets that have none of their own.
+#[derive(Clone, Copy, Debug)]
+pub(crate) struct Node {
+    pub(crate) params: EdgeParams,
+    pub(crate) id: u16,
+}
