@@ -1,0 +1,202 @@
+//! What an edge asks its machine.
+ghost use Rattle.std.specs.Prelude.{◌≡◌, IfOk, IsErr, Err};
+ghost use Rattle.octets.specs.declared.cause.Cause.{Cause as AnyCause};
+ghost use Rattle.octets.specs.declared.cause.Fault.TheVariants.{Drop as Dropped};
+ghost use Rattle.nat_model.specs.declared.ask.Ask.{Ask as AnyAsk};
+ghost use Rattle.packets.specs.Asked.{flow_of4, flow_of6, extent_of4, extent_of6, key_of4, key_of6};
+ghost use Rattle.edge_node.specs.declared.way.Way.TheVariants.{Lan as FromLan, Access as FromAccess, Turned as FromItself};
+ghost use Rattle.edge_node.specs.Asked.{near_addr4, near_addr6, near_port, far_port, part_of, outward, inward, inward_turned, IsAsk, IsDroppedAt};
+
+use crate::way::Way;
+use frag_table::FragKey;
+use nat_model::{Ask, End4, Far, Part};
+use octets::{Addr4, Addr6, Bytes, Fault, NoMemory};
+use packets::{Content4, Content6, Extent, Flow, Packet4, Packet6};
+use std::alloc::Global;
+
+/// The numbers of the sides in a fragment's key.
+const FROM_LAN: u8 = 0;
+const FROM_ACCESS: u8 = 1;
+const FROM_ITSELF: u8 = 2;
+
+/// The address of the flow's end at the side from which the packet comes.
+fn near_addr4(packet: &Packet4) -> Addr4
+    ensures { result ≡ near_addr4 packet.now packet.now.content }
+{
+    match &packet.content {
+        Content4::Error { inner, .. } => inner.head.dst,
+        _ => packet.head.src,
+    }
+}
+
+/// The same of an IPv6 packet.
+fn near_addr6(packet: &Packet6) -> Addr6
+    ensures { result ≡ near_addr6 packet.now packet.now.content }
+{
+    match &packet.content {
+        Content6::Error { inner, .. } => inner.head.dst,
+        _ => packet.head.src,
+    }
+}
+
+/// The port of that end.
+fn near_port(flow: &Flow) -> u16
+    ensures { result ≡ near_port flow.now }
+{
+    if flow.fault {
+        flow.ports.dst
+    } else {
+        flow.ports.src
+    }
+}
+
+/// The port of the flow's other end.
+fn far_port(flow: &Flow) -> u16
+    ensures { result ≡ far_port flow.now }
+{
+    if flow.fault {
+        flow.ports.src
+    } else {
+        flow.ports.dst
+    }
+}
+
+/// Which part of a packet it is.
+fn part_of(alloc: Global, extent: Extent, key: FragKey, octets: &[u8]) -> Result<Part, NoMemory>
+    ensures { IfOk result (λ part. part ≡ part_of extent key octets.now) }
+{
+    Ok(match extent {
+        Extent::Whole => Part::Whole,
+        Extent::First => Part::First(key),
+        Extent::Later => {
+            let mut taken = Bytes::new(alloc);
+            taken.extend(octets)?;
+            Part::Later(key, taken)
+        }
+    })
+}
+
+/// What is asked about a packet from the LAN.
+fn outward(alloc: Global, packet: &Packet4, octets: &[u8]) -> Result<Ask, NoMemory>
+    ensures { IfOk result (λ ask. ask ≡ outward packet.now (flow_of4 packet.now.content) octets.now) }
+{
+    let flow = packet.flow();
+    let near = End4 {
+        addr: near_addr4(packet),
+        port: near_port(&flow),
+    };
+    let far = End4 {
+        addr: packet.head.dst,
+        port: far_port(&flow),
+    };
+    Ok(Ask::Outward {
+        fault: flow.fault,
+        proto: flow.proto,
+        near,
+        far,
+        flags: flow.flags,
+        part: part_of(alloc, packet.extent(), packet.key(FROM_LAN), octets)?,
+    })
+}
+
+/// What is asked about a packet from the access network.
+fn inward(alloc: Global, packet: &Packet6, octets: &[u8]) -> Result<Ask, NoMemory>
+    ensures { IfOk result (λ ask. ask ≡ inward packet.now (flow_of6 packet.now.content) octets.now) }
+{
+    let flow = packet.flow();
+    let far = Far::Six {
+        dst: packet.head.dst,
+        src: packet.head.src,
+        peer: near_addr6(packet),
+        port: near_port(&flow),
+    };
+    Ok(Ask::Inward {
+        fault: flow.fault,
+        proto: flow.proto,
+        port: far_port(&flow),
+        far,
+        flags: flow.flags,
+        part: part_of(alloc, packet.extent(), packet.key(FROM_ACCESS), octets)?,
+    })
+}
+
+/// What is asked about a packet that the edge turned.
+fn inward_turned(alloc: Global, packet: &Packet4, octets: &[u8]) -> Result<Ask, NoMemory>
+    ensures { IfOk result (λ ask. ask ≡ inward_turned packet.now (flow_of4 packet.now.content) octets.now) }
+{
+    let flow = packet.flow();
+    let far = Far::Turned {
+        dst: packet.head.dst,
+        src: packet.head.src,
+        peer: near_addr4(packet),
+        port: near_port(&flow),
+    };
+    Ok(Ask::Inward {
+        fault: flow.fault,
+        proto: flow.proto,
+        port: far_port(&flow),
+        far,
+        flags: flow.flags,
+        part: part_of(alloc, packet.extent(), packet.key(FROM_ITSELF), octets)?,
+    })
+}
+
+/// The ask of a packet from the LAN.
+fn from_lan(alloc: Global, octets: &[u8]) -> Result<Ask, Fault>
+    ensures found { IfOk result (IsAsk FromLan octets.now) }
+    ensures only { (ask : AnyAsk) → IsAsk FromLan octets.now ask → IfOk result (λ asked. asked ≡ ask) }
+    ensures refused { (cause : AnyCause) → result ≡ Err (Dropped cause) → IsDroppedAt FromLan cause octets.now }
+    ensures dropped { (cause : AnyCause) → IsDroppedAt FromLan cause octets.now → IsErr result }
+{
+    match Packet4::read(alloc, octets) {
+        Ok(packet) => Ok(outward(alloc, &packet, octets)?),
+        Err(fault) => Err(fault),
+    }
+}
+
+/// The ask of a packet from the access network.
+fn from_access(alloc: Global, octets: &[u8]) -> Result<Ask, Fault>
+    ensures found { IfOk result (IsAsk FromAccess octets.now) }
+    ensures only { (ask : AnyAsk) → IsAsk FromAccess octets.now ask → IfOk result (λ asked. asked ≡ ask) }
+    ensures refused { (cause : AnyCause) → result ≡ Err (Dropped cause) → IsDroppedAt FromAccess cause octets.now }
+    ensures dropped { (cause : AnyCause) → IsDroppedAt FromAccess cause octets.now → IsErr result }
+{
+    match Packet6::read(alloc, octets, false) {
+        Ok(packet) => Ok(inward(alloc, &packet, octets)?),
+        Err(fault) => Err(fault),
+    }
+}
+
+/// The ask of a packet that the edge turned.
+fn from_itself(alloc: Global, octets: &[u8]) -> Result<Ask, Fault>
+    ensures found { IfOk result (IsAsk FromItself octets.now) }
+    ensures only { (ask : AnyAsk) → IsAsk FromItself octets.now ask → IfOk result (λ asked. asked ≡ ask) }
+    ensures refused { (cause : AnyCause) → result ≡ Err (Dropped cause) → IsDroppedAt FromItself cause octets.now }
+    ensures dropped { (cause : AnyCause) → IsDroppedAt FromItself cause octets.now → IsErr result }
+{
+    match Packet4::read(alloc, octets) {
+        Ok(packet) => Ok(inward_turned(alloc, &packet, octets)?),
+        Err(fault) => Err(fault),
+    }
+}
+
+/// What an edge asks its machine about the packet in these octets (RFC 7599, section 8): of a flow its ends, of an ICMP
+/// error the ends of the flow that the embedded packet belongs to, and whether it is a fragment.
+///
+/// Refuses, but for want of memory, exactly the packets that every node drops before it looks at a rule, with the least of
+/// their causes.
+pub fn ask_of(alloc: Global, way: Way, packet: &[u8]) -> Result<Ask, Fault>
+    ensures found { IfOk result (IsAsk way packet.now) }
+    // What is to be asked is asked.
+    ensures only { (ask : AnyAsk) → IsAsk way packet.now ask → IfOk result (λ asked. asked ≡ ask) }
+    // A refusal is the least cause.
+    ensures refused { (cause : AnyCause) → result ≡ Err (Dropped cause) → IsDroppedAt way cause packet.now }
+    // A packet with a cause is refused.
+    ensures dropped { (cause : AnyCause) → IsDroppedAt way cause packet.now → IsErr result }
+{
+    match way {
+        Way::Lan => from_lan(alloc, packet),
+        Way::Access => from_access(alloc, packet),
+        Way::Turned => from_itself(alloc, packet),
+    }
+}

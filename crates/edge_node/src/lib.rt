@@ -1,0 +1,19 @@
+//! A customer edge's part of a hop: what it asks its machine about a packet, and what it sends by the machine's answer
+//! (RFC 7599, section 8; RFC 7915).
+#![tactic(auto)]
+
+mod ask;
+mod drops;
+mod hop;
+mod freed;
+mod inward;
+mod outward;
+mod way;
+
+pub use ask::ask_of;
+pub use hop::emit;
+pub use packet_faults::{Causes, Hop, Out, Outs};
+pub use way::{EdgeParams, Way};
+
+#[cfg(test)]
+mod tests;

@@ -1,0 +1,17 @@
+//! A packet on its way through a node: translated, and sent, cut, or dropped with an ICMP error that says why.
+#![tactic(auto)]
+
+mod exit;
+mod passage;
+mod to_ipv4;
+mod to_ipv6;
+mod reply;
+
+pub use exit::{Exit, drop_packet, nothing, send, send_pieces};
+pub use passage::Passage;
+pub use to_ipv4::passage64;
+pub use to_ipv6::passage46;
+pub use reply::{reply4, reply6};
+
+#[cfg(test)]
+mod tests;
