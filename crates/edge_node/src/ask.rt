@@ -16,7 +16,9 @@ use std::alloc::Global;
 
 /// The numbers of the sides in a fragment's key.
 const FROM_LAN: u8 = 0;
+
 const FROM_ACCESS: u8 = 1;
+
 const FROM_ITSELF: u8 = 2;
 
 /// The address of the flow's end at the side from which the packet comes.

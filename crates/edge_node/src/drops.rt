@@ -26,7 +26,14 @@ pub(crate) fn drop_from_lan(
     requires { IsTrue (has_notice cause) → IsReadable4 octets.now }
     ensures { OnOk result ((part : AnyHop) × Drops node.now AtLan octets.now cause part × (hop.new ≡ then hop.old part)) }
 {
-    let reply = reply4(alloc, node.params.mtus, cause, octets, node.params.lan, node.id)?;
+    let reply = reply4(
+        alloc,
+        node.params.mtus,
+        cause,
+        octets,
+        node.params.lan,
+        node.id,
+    )?;
     drop_packet(hop, cause, Exit::ToLan, reply)
 }
 

@@ -4,8 +4,8 @@
 
 mod ask;
 mod drops;
-mod hop;
 mod freed;
+mod hop;
 mod inward;
 mod outward;
 mod way;

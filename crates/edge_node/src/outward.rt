@@ -116,7 +116,10 @@ pub(crate) fn from_lan(
 {
     match answer {
         Answer::Out {
-            port, src6, dst6, ..
+            port,
+            src6,
+            dst6,
+            ..
         } => go_out(alloc, hop, node, packet, octets, *port, *src6, *dst6),
         Answer::Turn { from, port, .. } => turn(alloc, hop, node, packet, octets, *from, *port),
         Answer::Held => Ok(()),

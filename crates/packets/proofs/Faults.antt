@@ -37,7 +37,6 @@ pub exactly : (Holds : Cause → Type 0) (fault : Fault) (cause : Cause) → IsL
 exactly Holds (Drop other) cause least told = inl (ap Drop (one_least Holds other cause (told other refl) least))
 exactly Holds NoMemory cause least told = inr refl
 
-
 pub same_cause : (fault : Fault) (one other : Cause) → fault ≡ Drop one → fault ≡ Drop other → other ≡ one
 same_cause fault one other a b = cc
 

@@ -28,11 +28,19 @@ use std::alloc::Global;
 #[derive(Debug, Drop)]
 pub enum Content4 {
     /// TCP or UDP, in a whole packet or in the first fragment of one: its transport header.
-    Segment { proto: Proto, l4: L4 },
+    Segment {
+        proto: Proto,
+        l4: L4,
+    },
     /// A later fragment of TCP or UDP.
-    Later { proto: Proto },
+    Later {
+        proto: Proto,
+    },
     /// An ICMP query, with the row by which it is translated.
-    Query { message: Icmp4, row: Row },
+    Query {
+        message: Icmp4,
+        row: Row,
+    },
     /// An ICMP error, with the row by which it is translated, and the packet that it embeds.
     Error {
         message: Icmp4,

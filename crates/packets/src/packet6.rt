@@ -28,11 +28,19 @@ use std::alloc::Global;
 #[derive(Debug, Drop)]
 pub enum Content6 {
     /// TCP or UDP, in a whole packet or in the first fragment of one: its transport header.
-    Segment { proto: Proto, l4: L4 },
+    Segment {
+        proto: Proto,
+        l4: L4,
+    },
     /// A later fragment of TCP or UDP.
-    Later { proto: Proto },
+    Later {
+        proto: Proto,
+    },
     /// An ICMPv6 query, with the row by which it is translated.
-    Query { message: Icmp6, row: Row },
+    Query {
+        message: Icmp6,
+        row: Row,
+    },
     /// An ICMPv6 error, with the row by which it is translated, and the packet that it embeds.
     Error {
         message: Icmp6,
@@ -89,12 +97,7 @@ fn embedded_packet6(
 }
 
 /// The ICMPv6 message behind these headers.
-fn message6(
-    alloc: Global,
-    head: &Head6,
-    payload: &[u8],
-    at_relay: bool,
-) -> Result<Content6, Fault>
+fn message6(alloc: Global, head: &Head6, payload: &[u8], at_relay: bool) -> Result<Content6, Fault>
     requires protocol { head.now.upper ≡ 58 }
     requires unrouted { head.now.left ≡ None }
     ensures found { IfOk result (λ content. IsContent6 at_relay head.now payload.now content) }
@@ -120,12 +123,7 @@ fn message6(
 }
 
 /// What stands behind these headers.
-fn carried6(
-    alloc: Global,
-    head: &Head6,
-    payload: &[u8],
-    at_relay: bool,
-) -> Result<Content6, Fault>
+fn carried6(alloc: Global, head: &Head6, payload: &[u8], at_relay: bool) -> Result<Content6, Fault>
     ensures found { IfOk result (λ content. (head.now.left ≡ None) × IsContent6 at_relay head.now payload.now content) }
     ensures only { (content : Content) → IsContent6 at_relay head.now payload.now content → IfOk result (λ read. read ≡ content) }
     ensures refused { (cause : AnyCause) → result ≡ Err (Dropped cause) → IsLeast (Behind6 at_relay head.now payload.now) cause }

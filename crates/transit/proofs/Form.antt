@@ -81,13 +81,17 @@ cuttable mtus p octets written ends is exact total id range no_message e =
     by_content (Segment proto l4) has flow e =
         let stands = header_stands proto (payload_of p.head octets) (not p.head.mf) has.transport in
         let parts : Parts4 = record { head = p.head; proto = proto; payload = payload_of p.head octets } in
-        let same : packet46 parts ends.src ends.dst (Some ends.ports) ≡ written = cc in
-        (translated p.head ends.src ends.dst, payload46 parts ends.src ends.dst (Some ends.ports),
-            rw (sym same) (form p.head proto octets _ ends.src ends.dst is.is is.header has.protocol has.no_icmp total id range (length-with_l4 proto (payload_of p.head octets) ends.ports _ stands ∙ exact)))
+        let same : packet46 parts ends.src ends.dst (Some ends.ports) ≡ written = cc in (
+          translated p.head ends.src ends.dst,
+          payload46 parts ends.src ends.dst (Some ends.ports),
+          rw (sym same) (form p.head proto octets _ ends.src ends.dst is.is is.header has.protocol has.no_icmp total id range (length-with_l4 proto (payload_of p.head octets) ends.ports _ stands ∙ exact)),
+        )
     by_content (Later proto) has flow e =
         let parts : Parts4 = record { head = p.head; proto = proto; payload = payload_of p.head octets } in
-        let same : packet46 parts ends.src ends.dst None ≡ written = cc in
-        (translated p.head ends.src ends.dst, payload46 parts ends.src ends.dst None,
-            rw (sym same) (form p.head proto octets _ ends.src ends.dst is.is is.header has.protocol has.no_icmp total id range exact))
+        let same : packet46 parts ends.src ends.dst None ≡ written = cc in (
+          translated p.head ends.src ends.dst,
+          payload46 parts ends.src ends.dst None,
+          rw (sym same) (form p.head proto octets _ ends.src ends.dst is.is is.header has.protocol has.no_icmp total id range exact),
+        )
     by_content (Query message row) has flow e = absurd (let f : true ≡ false = flow in cc)
     by_content (Error message row inner) has flow e = absurd (let f : true ≡ false = flow in cc)

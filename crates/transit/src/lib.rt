@@ -3,15 +3,15 @@
 
 mod exit;
 mod passage;
+mod reply;
 mod to_ipv4;
 mod to_ipv6;
-mod reply;
 
 pub use exit::{Exit, drop_packet, nothing, send, send_pieces};
 pub use passage::Passage;
+pub use reply::{reply4, reply6};
 pub use to_ipv4::passage64;
 pub use to_ipv6::passage46;
-pub use reply::{reply4, reply6};
 
 #[cfg(test)]
 mod tests;

@@ -84,7 +84,10 @@ fn translated(
     let head = &packet.head;
     let payload = payload_in(packet, octets);
     let Ends {
-        src, dst, ports, ..
+        src,
+        dst,
+        ports,
+        ..
     } = *ends;
     match &packet.content {
         Content6::Segment { proto, .. } => {

@@ -21,7 +21,9 @@ returns-in_ok-freed_one-in-len1-up t c =
     let one = c.in_ok-freed_one-in-len1-up.ensures in
     let freed : IsFreed (IsLaterAt way) (Becomes node way answer) first.bytes one.0 = subst (λ (octets : List ℕ). IsFreed (IsLaterAt way) (Becomes node way answer) octets one.0) c.as_slice.ensures one.1 in
     on_ok _ _ c.freed_all.result
-        (λ (part, are, new). (then one.0 part,
-            subst (λ (ps : List Parcel). AreFreed (IsLaterAt way) (Becomes node way answer) ps (then one.0 part)) (sym split) (one.0, part, freed, subst (λ (ps : List Parcel). AreFreed (IsLaterAt way) (Becomes node way answer) ps part) (others_are parcels) are, refl),
-            new ∙ ap (λ (h : Hop). then h part) one.2 ∙ then_assoc c.args.hop.now one.0 part))
-        c.freed_all.ensures
+    (λ (part, are, new). (
+      then one.0 part,
+      subst (λ (ps : List Parcel). AreFreed (IsLaterAt way) (Becomes node way answer) ps (then one.0 part)) (sym split) (one.0, part, freed, subst (λ (ps : List Parcel). AreFreed (IsLaterAt way) (Becomes node way answer) ps part) (others_are parcels) are, refl),
+      new ∙ ap (λ (h : Hop). then h part) one.2 ∙ then_assoc c.args.hop.now one.0 part,
+    ))
+    c.freed_all.ensures

@@ -6,13 +6,15 @@ use Rattle.packets.specs.declared.packet6.Packet6.{Packet6}
 use Rattle.edge_node.proofs.freed.freed_from_access.Goals as goal
 
 pub returns-in-Ok : goal.returns-in-Ok
-returns-in-Ok c =
-    (nothing,
-    inr (λ (q, proto, is, later). c.in_default.not-Later proto (ap (λ (x : Packet6). x.content) (same_packet c.in-Ok.packet q _ (c.in-Ok.ensures.only q is)) ∙ later), refl),
-    sym (then_nothing c.args.hop.now))
+returns-in-Ok c = (
+  nothing,
+  inr (λ (q, proto, is, later). c.in_default.not-Later proto (ap (λ (x : Packet6). x.content) (same_packet c.in-Ok.packet q _ (c.in-Ok.ensures.only q is)) ∙ later), refl),
+  sym (then_nothing c.args.hop.now),
+)
 
 pub returns : goal.returns
-returns c =
-    (nothing,
-    inr (λ (q, proto, is, later). refused_packet c.read.result _ _ q c.in-Err-Drop.is c.in-Err-Drop.field-0-is (c.read.ensures.only q is), refl),
-    sym (then_nothing c.args.hop.now))
+returns c = (
+  nothing,
+  inr (λ (q, proto, is, later). refused_packet c.read.result _ _ q c.in-Err-Drop.is c.in-Err-Drop.field-0-is (c.read.ensures.only q is), refl),
+  sym (then_nothing c.args.hop.now),
+)

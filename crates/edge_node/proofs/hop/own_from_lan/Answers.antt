@@ -15,7 +15,7 @@ pub returns-in-Err-Drop : goal.returns-in-Err-Drop
 returns-in-Err-Drop c =
     let cause = c.in-Err-Drop.cause in
     let refused : c.args.answer.now ≡ Refused cause [] = ⊎_elim
-        (λ ((p, is), fits). absurd (refused_packet c.read.result _ cause p c.in-Err-Drop.is c.in-Err-Drop.field-0-is (c.read.ensures.only p is)))
-        (λ (other, dropped, e). e ∙ ap (λ (x : Cause). Refused x []) (same_refusal c.read.result _ cause other c.in-Err-Drop.is c.in-Err-Drop.field-0-is (c.read.ensures.cause other dropped)))
-        c.requires in
+    (λ ((p, is), fits). absurd (refused_packet c.read.result _ cause p c.in-Err-Drop.is c.in-Err-Drop.field-0-is (c.read.ensures.only p is)))
+    (λ (other, dropped, e). e ∙ ap (λ (x : Cause). Refused x []) (same_refusal c.read.result _ cause other c.in-Err-Drop.is c.in-Err-Drop.field-0-is (c.read.ensures.cause other dropped)))
+    c.requires in
     on_ok _ _ c.drop_from_lan.result (λ (part, drops, new). (part, inr (cause, c.read.ensures.refused cause (c.in-Err-Drop.is ∙ ap Err c.in-Err-Drop.field-0-is), refused, drops), new)) c.drop_from_lan.ensures

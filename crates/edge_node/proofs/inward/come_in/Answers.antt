@@ -31,6 +31,9 @@ returns-in-Some c =
     let passes = subst (λ (e : Ends Addr4). IsPassage64 (record { mtus = node.params.mtus; ends = e; id = node.id }) p (payload_of p.head c.args.octets.now) c.in_ok-passage.passage) ends c.in_ok-passage.ensures in
     let leaves = rw c.in-Some.is at c.in_ok-leave.ensures in
     on_ok _ _ c.drop_from_access.result
-        (λ (part, dropped, new). (part, (c.in_ok-passage.passage, passes, carried ToLan c.in_ok-passage.passage _ _ c.in-Some.cause (Drops node Access c.args.octets.now) part leaves dropped),
-            new ∙ ap (λ (h : Hop). then h part) (stayed ToLan c.in_ok-passage.passage _ _ c.in-Some.cause leaves)))
-        c.drop_from_access.ensures
+    (λ (part, dropped, new). (
+      part,
+      (c.in_ok-passage.passage, passes, carried ToLan c.in_ok-passage.passage _ _ c.in-Some.cause (Drops node Access c.args.octets.now) part leaves dropped),
+      new ∙ ap (λ (h : Hop). then h part) (stayed ToLan c.in_ok-passage.passage _ _ c.in-Some.cause leaves),
+    ))
+    c.drop_from_access.ensures

@@ -32,6 +32,9 @@ returns-in-Some c =
     let passes = subst (λ (e : Ends Addr6). IsPassage46 node.params.mtus p (payload_of p.head c.args.octets.now) e c.in_ok-passage.passage) ends c.in_ok-passage.ensures in
     let leaves = rw c.in-Some.is at c.in_ok-leave.ensures in
     on_ok _ _ c.drop_from_lan.result
-        (λ (part, dropped, new). (part, (c.in_ok-passage.passage, passes, carried ToAccess c.in_ok-passage.passage _ _ c.in-Some.cause (Drops node Lan c.args.octets.now) part leaves dropped),
-            new ∙ ap (λ (h : Hop). then h part) (stayed ToAccess c.in_ok-passage.passage _ _ c.in-Some.cause leaves)))
-        c.drop_from_lan.ensures
+    (λ (part, dropped, new). (
+      part,
+      (c.in_ok-passage.passage, passes, carried ToAccess c.in_ok-passage.passage _ _ c.in-Some.cause (Drops node Lan c.args.octets.now) part leaves dropped),
+      new ∙ ap (λ (h : Hop). then h part) (stayed ToAccess c.in_ok-passage.passage _ _ c.in-Some.cause leaves),
+    ))
+    c.drop_from_lan.ensures

@@ -19,9 +19,9 @@ returns-in_err-message-clause-refused c = λ cause e.
     let told = c.in_err-message.ensures in
     ⊎_elim
     (λ short. subst (λ (x : Cause). IsLeast (Behind6 c.args.at_relay head c.args.payload.now) x) (sym (same_cause fault BadTransport cause short is))
-        (short_least c.args.at_relay head c.args.payload.now c.requires.protocol c.requires.unrouted whole first (told.short.0 (ap Err short))))
+    (short_least c.args.at_relay head c.args.payload.now c.requires.protocol c.requires.unrouted whole first (told.short.0 (ap Err short))))
     (⊎_elim
-        (λ wrong. subst (λ (x : Cause). IsLeast (Behind6 c.args.at_relay head c.args.payload.now) x) (sym (same_cause fault IcmpSum cause wrong is))
-            (wrong_least c.args.at_relay head c.args.payload.now c.requires.protocol c.requires.unrouted whole (told.wrong.0 (ap Err wrong))))
-        (λ memory. no_cause fault cause is memory))
+    (λ wrong. subst (λ (x : Cause). IsLeast (Behind6 c.args.at_relay head c.args.payload.now) x) (sym (same_cause fault IcmpSum cause wrong is))
+    (wrong_least c.args.at_relay head c.args.payload.now c.requires.protocol c.requires.unrouted whole (told.wrong.0 (ap Err wrong))))
+    (λ memory. no_cause fault cause is memory))
     told.no_other

@@ -15,4 +15,4 @@ returns-in-Some-clause-answer c = λ h is.
     let left : c.left_in.result ≡ h.left = c.left_in.ensures h is (c.requires (noticed mtus c.left_in.result c.args.cause _ told)) in
     subst (λ (l : Option ℕ). IfOk c.fault6.result (IsAnswer6 h packet c.args.src (notice6 mtus l c.args.cause))) left
     (subst (λ (n : Option Notice). IfOk c.fault6.result (IsAnswer6 h packet c.args.src n)) (sym told)
-        (both _ _ c.fault6.result (c.fault6.ensures.none h (payload_of h packet) is) (c.fault6.ensures.error h (payload_of h packet) is)))
+    (both _ _ c.fault6.result (c.fault6.ensures.none h (payload_of h packet) is) (c.fault6.ensures.error h (payload_of h packet) is)))

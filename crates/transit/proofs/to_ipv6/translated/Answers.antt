@@ -18,4 +18,4 @@ returns-in-Error c =
     let payload = payload_of head c.args.octets.now in
     let is = subst (λ (x : Content4). IsContent4 head payload x) c.in-Error.is c.requires.is.content in
     follows _ _ c.message-in-Error.result (λ w e. rw c.in-Error.is e)
-        (c.message-in-Error.ensures.error c.in-Error.row c.in-Error.inner is.message.found is.error.no_query is.embedded)
+    (c.message-in-Error.ensures.error c.in-Error.row c.in-Error.inner is.message.found is.error.no_query is.embedded)

@@ -36,9 +36,9 @@ returns-in_err-content-clause-cause c = λ cause dropped.
     ⊎_elim
     (λ header. absurd (c.in_ok-head.ensures.found.1 cause header.0))
     (λ (h, is, none, least).
-        let read = c.read.ensures.only h (payload_of h c.args.octets.now) is none in
-        let same : h ≡ head = one_head c.read.result h head read c.in_ok-head.was in
-        ⊎_elim (λ dropped. inl (rw dropped at err)) (λ memory. inr (rw memory at err)) (exactly (Behind6 c.args.at_relay head payload) c.in_err-content.field-0.0 cause (rw same at least) told))
+    let read = c.read.ensures.only h (payload_of h c.args.octets.now) is none in
+    let same : h ≡ head = one_head c.read.result h head read c.in_ok-head.was in
+    ⊎_elim (λ dropped. inl (rw dropped at err)) (λ memory. inr (rw memory at err)) (exactly (Behind6 c.args.at_relay head payload) c.in_err-content.field-0.0 cause (rw same at least) told))
     dropped
 
 pub returns-clause-only : goal.returns-clause-only
@@ -57,9 +57,9 @@ returns-clause-cause c = λ cause dropped.
     ⊎_elim
     (λ header. absurd (c.in_ok-head.ensures.found.1 cause header.0))
     (λ (h, is, none, least).
-        let read = c.read.ensures.only h (payload_of h c.args.octets.now) is none in
-        let same : h ≡ head = one_head c.read.result h head read c.in_ok-head.was in
-        absurd (content_spares c.args.at_relay head payload c.in_ok-content.content cause c.in_ok-content.ensures.found.0 (rw c.payload.ensures at c.in_ok-content.ensures.found.1) (rw same at least).0))
+    let read = c.read.ensures.only h (payload_of h c.args.octets.now) is none in
+    let same : h ≡ head = one_head c.read.result h head read c.in_ok-head.was in
+    absurd (content_spares c.args.at_relay head payload c.in_ok-content.content cause c.in_ok-content.ensures.found.0 (rw c.payload.ensures at c.in_ok-content.ensures.found.1) (rw same at least).0))
     dropped
 
 pub returns-in_err-head-clause-only : goal.returns-in_err-head-clause-only
