@@ -9,6 +9,3 @@ mod packet6;
 pub use asked::{Extent, Flow};
 pub use packet4::{Content4, Packet4};
 pub use packet6::{Content6, Packet6};
-
-#[cfg(test)]
-mod tests;

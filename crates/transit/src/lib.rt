@@ -12,6 +12,3 @@ pub use passage::Passage;
 pub use reply::{reply4, reply6};
 pub use to_ipv4::passage64;
 pub use to_ipv6::passage46;
-
-#[cfg(test)]
-mod tests;
