@@ -1,5 +1,5 @@
 -- What a hop gains.
-use Rattle.std.proofs.Common.{◌≡◌, ◌∙◌, refl, sym, ap, List, [], ◌∷◌, ◌++◌, append_assoc}
+use Rattle.std.proofs.Common.{◌≡◌, ◌∙◌, refl, sym, ap, subst, ℕ, List, [], ◌∷◌, ◌++◌, append_assoc}
 use Rattle.std.specs.Prelude.{Result, Ok, Err, OnOk, IfOk}
 use Rattle.std.proofs.lemmas.List.{append-nil}
 use Rattle.octets.specs.declared.cause.Cause.{Cause}
@@ -18,7 +18,7 @@ gained (Err e) Becomes before after more is f = tt
 -- what follows from what is gained is gained
 pub widened : {A E : Type 0} (r : Result A E) (One Other : Hop → Type 0) (before after : Hop) → ((hop : Hop) → One hop → Other hop)
     → OnOk r (Gains One before after) → OnOk r (Gains Other before after)
-widened (Ok x) One Other before after step gain = (gain.0, step gain.0 gain.1.0, gain.1.1)
+widened (Ok x) One Other before after step (more, is, e) = (more, step more is, e)
 widened (Err e) One Other before after step gain = tt
 
 -- two hops are one where both their parts are
@@ -40,7 +40,7 @@ unmoved Becomes hop is = (nothing, is, then_nothing hop)
 
 -- from nothing, all of it is gained
 pub from_nothing : (Becomes : Hop → Type 0) (hop : Hop) → Gains Becomes nothing hop → Becomes hop
-from_nothing Becomes hop gain = Rattle.std.proofs.Common.subst Becomes (sym gain.1.1) gain.1.0
+from_nothing Becomes hop (more, is, e) = subst Becomes (sym e) is
 
 -- first and then
 pub both_gained : {A E : Type 0} (r : Result A E) (First Second : Hop → Type 0) (before between after : Hop) → Gains First before between
@@ -51,7 +51,7 @@ both_gained (Ok x) First Second before between after (a, is, e) (b, so, f) =
 both_gained (Err e) First Second before between after one other = tt
 
 -- one freed fragment more, at the end
-pub one_more : (IsLater : List Rattle.std.specs.Prelude.ℕ → Type 0) (Becomes : List Rattle.std.specs.Prelude.ℕ → Hop → Type 0) (parcels : List Parcel) (parcel : Parcel) (hop more : Hop)
+pub one_more : (IsLater : List ℕ → Type 0) (Becomes : List ℕ → Hop → Type 0) (parcels : List Parcel) (parcel : Parcel) (hop more : Hop)
     → AreFreed IsLater Becomes parcels hop → IsFreed IsLater Becomes parcel.bytes more
     → AreFreed IsLater Becomes (parcels ++ parcel ∷ []) (then hop more)
 one_more IsLater Becomes [] parcel hop more none one =
@@ -60,7 +60,7 @@ one_more IsLater Becomes (p ∷ parcels) parcel hop more (first, others, is, res
     (first, then others more, is, one_more IsLater Becomes parcels parcel others more rest one, ap (λ h. then h more) e ∙ then_then first others more)
 
 -- the same of what a hop gains
-pub freed_more : (IsLater : List Rattle.std.specs.Prelude.ℕ → Type 0) (Becomes : List Rattle.std.specs.Prelude.ℕ → Hop → Type 0) (parcels : List Parcel) (parcel : Parcel) (before between after : Hop)
+pub freed_more : (IsLater : List ℕ → Type 0) (Becomes : List ℕ → Hop → Type 0) (parcels : List Parcel) (parcel : Parcel) (before between after : Hop)
     → Gains (AreFreed IsLater Becomes parcels) before between → Gains (IsFreed IsLater Becomes parcel.bytes) between after
     → Gains (AreFreed IsLater Becomes (parcels ++ parcel ∷ [])) before after
 freed_more IsLater Becomes parcels parcel before between after (a, is, e) (b, so, f) =

@@ -1,8 +1,9 @@
 //! What the relay asks of its notes about a fragment.
-ghost use Rattle.std.specs.Prelude.{◌≡◌, ◌⊎◌, Option, IfOk, Err, Ok, true};
+ghost use Rattle.std.specs.Prelude.{◌≡◌, ◌⊎◌, ◌↔◌, IsTrue, Option, IfOk, Err, Ok, true};
 ghost use Rattle.octets.specs.declared.cause.Cause.{Cause as AnyCause};
 ghost use Rattle.octets.specs.declared.cause.Fault.TheVariants.{Drop as Dropped, NoMemory as WantsMemory};
 ghost use Rattle.frag_table.specs.declared.ask.FragAsk.{FragAsk as AnyAsk};
+ghost use Rattle.packets.specs.declared.asked.Extent.TheVariants.{Later};
 ghost use Rattle.packets.specs.Behind4.{IsDropped4};
 ghost use Rattle.packets.specs.Behind6.{IsDropped6};
 ghost use Rattle.relay_node.specs.Asked.{asked, Asks4, Asks6, Asks, IsUnread, stripe};
@@ -27,6 +28,13 @@ pub fn stripe_of(key: &FragKey) -> u32
     ensures { result ≡ stripe key.now }
 {
     key.id % STRIPES
+}
+
+/// Whether this is a later fragment.
+pub(crate) fn is_later(extent: Extent) -> bool
+    ensures { IsTrue result ↔ (extent ≡ Later) }
+{
+    matches!(extent, Extent::Later)
 }
 
 /// The ask of this part of a packet.

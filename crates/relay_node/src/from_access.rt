@@ -1,5 +1,5 @@
 //! Packets from the access network.
-ghost use Rattle.std.specs.Prelude.{◌≡◌, OnOk, true};
+ghost use Rattle.std.specs.Prelude.{◌≡◌, OnOk, Some, true};
 ghost use Rattle.std.specs.Option.{option_map};
 ghost use Rattle.ip6_packet.specs.Grammar.{payload_of, Is6};
 ghost use Rattle.ip6_packet.specs.Causes.{HasNoCause6};
@@ -13,6 +13,7 @@ ghost use Rattle.relay_node.specs.Hop.{IsAnswered, IsHop6};
 ghost use Rattle.relay_node.specs.FromAccess.{ends64, IsRefused6, IsFaulty6, IsPassed6, IsSent6, Becomes6, IsLater6, IsOne6, AreFreed6};
 
 use crate::RelayParams;
+use crate::asked::is_later;
 use crate::exit::{embedded, exit_to};
 use frag_table::FragAnswer;
 use icmp_xlat::Ends;
@@ -20,7 +21,7 @@ use ip6_packet::Head6;
 use l4_headers::Ports;
 use octets::{Addr4, Cause, Fault, NoMemory, Parcel};
 use packet_faults::Hop;
-use packets::{Extent, Packet6};
+use packets::Packet6;
 use rule_book::{FarOf, RuleView};
 use std::alloc::Global;
 use transit::{Exit, Passage, drop_packet, passage64, reply6, send, send_pieces};
@@ -169,7 +170,7 @@ fn free6<V: RuleView>(
 {
     match Packet6::read(alloc, octets, true) {
         Ok(taken) => {
-            if !matches!(taken.extent(), Extent::Later) {
+            if !is_later(taken.extent()) {
                 return Ok(());
             }
             become6(alloc, view, params, id, &taken, octets, ports, hop)
@@ -197,6 +198,33 @@ fn free_all6<V: RuleView>(
     Ok(())
 }
 
+/// What becomes of a fragment that was read, by what the notes told of it.
+fn told6<V: RuleView>(
+    alloc: Global,
+    view: &V,
+    params: &RelayParams,
+    id: u16,
+    taken: &Packet6,
+    packet: &[u8],
+    told: &FragAnswer,
+    hop: &mut Hop,
+) -> Result<(), NoMemory>
+    requires { IsPacket6 true taken.now packet.now }
+    ensures { OnOk result (Gains (IsAnswered (Becomes6 (relay_at (V.rules view.now) (V.default_rule view.now) params.now id) taken.now packet.now) (AreFreed6 (relay_at (V.rules view.now) (V.default_rule view.now) params.now id)) (flow_of6 taken.now.content).ports (Some told.now)) hop.old hop.new) }
+{
+    let ports = taken.flow().ports;
+    match told {
+        FragAnswer::Noted => become6(alloc, view, params, id, taken, packet, ports, hop),
+        FragAnswer::Known(first) => become6(alloc, view, params, id, taken, packet, *first, hop),
+        FragAnswer::Held => Ok(()),
+        FragAnswer::Released(parcels) => {
+            become6(alloc, view, params, id, taken, packet, ports, hop)?;
+            free_all6(alloc, view, params, id, parcels.as_slice(), ports, hop)
+        }
+        FragAnswer::Full => drop_packet(hop, Cause::FragmentsFull, Exit::ToCore, None),
+    }
+}
+
 /// What becomes of a packet that was read, by what the notes told of it.
 fn answer6<V: RuleView>(
     alloc: Global,
@@ -211,16 +239,9 @@ fn answer6<V: RuleView>(
     requires { IsPacket6 true taken.now packet.now }
     ensures { OnOk result (Gains (IsAnswered (Becomes6 (relay_at (V.rules view.now) (V.default_rule view.now) params.now id) taken.now packet.now) (AreFreed6 (relay_at (V.rules view.now) (V.default_rule view.now) params.now id)) (flow_of6 taken.now.content).ports (option_map (λ answer. answer.now) told.entry)) hop.old hop.new) }
 {
-    let ports = taken.flow().ports;
     match told {
-        None | Some(FragAnswer::Noted) => become6(alloc, view, params, id, taken, packet, ports, hop),
-        Some(FragAnswer::Known(first)) => become6(alloc, view, params, id, taken, packet, *first, hop),
-        Some(FragAnswer::Held) => Ok(()),
-        Some(FragAnswer::Released(parcels)) => {
-            become6(alloc, view, params, id, taken, packet, ports, hop)?;
-            free_all6(alloc, view, params, id, parcels.as_slice(), ports, hop)
-        }
-        Some(FragAnswer::Full) => drop_packet(hop, Cause::FragmentsFull, Exit::ToCore, None),
+        Some(told) => told6(alloc, view, params, id, taken, packet, told, hop),
+        None => become6(alloc, view, params, id, taken, packet, taken.flow().ports, hop),
     }
 }
 

@@ -1,5 +1,5 @@
 //! Packets from IPv4: from the core, or turned by the relay itself.
-ghost use Rattle.std.specs.Prelude.{◌≡◌, OnOk};
+ghost use Rattle.std.specs.Prelude.{◌≡◌, OnOk, Some};
 ghost use Rattle.std.specs.Option.{option_map};
 ghost use Rattle.ip4_packet.specs.Grammar.{payload_of, Is4};
 ghost use Rattle.ip4_packet.specs.Causes.{HasNoCause4};
@@ -14,6 +14,7 @@ ghost use Rattle.relay_node.specs.Hop.{IsAnswered, IsHop4};
 ghost use Rattle.relay_node.specs.FromIpv4.{far_end, ends46, IsRefused4, IsFaulty4, IsPassed4, IsSent4, Becomes4, IsLater4, IsOne4, AreFreed4};
 
 use crate::RelayParams;
+use crate::asked::is_later;
 use crate::exit::{embedded, exit_to};
 use frag_table::FragAnswer;
 use icmp_xlat::Ends;
@@ -21,7 +22,7 @@ use ip4_packet::Head4;
 use l4_headers::Ports;
 use octets::{Addr4, Addr6, Cause, Fault, NoMemory, Parcel};
 use packet_faults::Hop;
-use packets::{Content4, Extent, Packet4};
+use packets::{Content4, Packet4};
 use rule_book::RuleView;
 use std::alloc::Global;
 use transit::{Exit, Passage, drop_packet, passage46, reply4, send, send_pieces};
@@ -178,7 +179,7 @@ fn free4<V: RuleView>(
 {
     match Packet4::read(alloc, octets) {
         Ok(taken) => {
-            if !matches!(taken.extent(), Extent::Later) {
+            if !is_later(taken.extent()) {
                 return Ok(());
             }
             become4(alloc, view, params, id, &taken, octets, ports, hop)
@@ -206,6 +207,33 @@ fn free_all4<V: RuleView>(
     Ok(())
 }
 
+/// What becomes of a fragment that was read, by what the notes told of it.
+fn told4<V: RuleView>(
+    alloc: Global,
+    view: &V,
+    params: &RelayParams,
+    id: u16,
+    taken: &Packet4,
+    packet: &[u8],
+    told: &FragAnswer,
+    hop: &mut Hop,
+) -> Result<(), NoMemory>
+    requires { IsPacket4 taken.now packet.now }
+    ensures { OnOk result (Gains (IsAnswered (Becomes4 (relay_at (V.rules view.now) (V.default_rule view.now) params.now id) taken.now packet.now) (AreFreed4 (relay_at (V.rules view.now) (V.default_rule view.now) params.now id)) (flow_of4 taken.now.content).ports (Some told.now)) hop.old hop.new) }
+{
+    let ports = taken.flow().ports;
+    match told {
+        FragAnswer::Noted => become4(alloc, view, params, id, taken, packet, ports, hop),
+        FragAnswer::Known(first) => become4(alloc, view, params, id, taken, packet, *first, hop),
+        FragAnswer::Held => Ok(()),
+        FragAnswer::Released(parcels) => {
+            become4(alloc, view, params, id, taken, packet, ports, hop)?;
+            free_all4(alloc, view, params, id, parcels.as_slice(), ports, hop)
+        }
+        FragAnswer::Full => drop_packet(hop, Cause::FragmentsFull, Exit::ToCore, None),
+    }
+}
+
 /// What becomes of a packet that was read, by what the notes told of it.
 fn answer4<V: RuleView>(
     alloc: Global,
@@ -220,16 +248,9 @@ fn answer4<V: RuleView>(
     requires { IsPacket4 taken.now packet.now }
     ensures { OnOk result (Gains (IsAnswered (Becomes4 (relay_at (V.rules view.now) (V.default_rule view.now) params.now id) taken.now packet.now) (AreFreed4 (relay_at (V.rules view.now) (V.default_rule view.now) params.now id)) (flow_of4 taken.now.content).ports (option_map (λ answer. answer.now) told.entry)) hop.old hop.new) }
 {
-    let ports = taken.flow().ports;
     match told {
-        None | Some(FragAnswer::Noted) => become4(alloc, view, params, id, taken, packet, ports, hop),
-        Some(FragAnswer::Known(first)) => become4(alloc, view, params, id, taken, packet, *first, hop),
-        Some(FragAnswer::Held) => Ok(()),
-        Some(FragAnswer::Released(parcels)) => {
-            become4(alloc, view, params, id, taken, packet, ports, hop)?;
-            free_all4(alloc, view, params, id, parcels.as_slice(), ports, hop)
-        }
-        Some(FragAnswer::Full) => drop_packet(hop, Cause::FragmentsFull, Exit::ToCore, None),
+        Some(told) => told4(alloc, view, params, id, taken, packet, told, hop),
+        None => become4(alloc, view, params, id, taken, packet, taken.flow().ports, hop),
     }
 }
 
