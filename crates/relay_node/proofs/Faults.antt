@@ -6,10 +6,10 @@ use Rattle.octets.specs.declared.cause.Cause.TheVariants.{NotIp, Truncated, BadH
 use Rattle.octets.specs.declared.cause.Fault.{Fault}
 use Rattle.octets.specs.declared.cause.Fault.TheVariants.{Drop, NoMemory}
 use Rattle.ip4_packet.specs.declared.head.Head4.{Head4}
-use Rattle.ip4_packet.specs.Causes.{HasCause4, HasNoCause4, IsCause4}
+use Rattle.ip4_packet.specs.Causes.{HasCause4, HasNoCause4}
 use Rattle.ip4_packet.specs.Grammar.{payload_of as payload_of4, Is4}
 use Rattle.ip6_packet.specs.declared.head.Head6.{Head6}
-use Rattle.ip6_packet.specs.Causes.{HasCause6, HasNoCause6, IsCause6}
+use Rattle.ip6_packet.specs.Causes.{HasCause6, HasNoCause6}
 use Rattle.ip6_packet.specs.Grammar.{payload_of as payload_of6, Is6}
 use Rattle.packets.proofs.Faults.{is_fault}
 use Rattle.packets.specs.Behind4.{IsDropped4}

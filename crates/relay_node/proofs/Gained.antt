@@ -1,6 +1,6 @@
 -- What a hop gains.
 use Rattle.std.proofs.Common.{◌≡◌, ◌∙◌, refl, sym, ap, subst, ℕ, List, [], ◌∷◌, ◌++◌, append_assoc}
-use Rattle.std.specs.Prelude.{Result, Ok, Err, OnOk, IfOk}
+use Rattle.std.specs.Prelude.{Result, Ok, Err, OnOk}
 use Rattle.std.proofs.lemmas.List.{append-nil}
 use Rattle.octets.specs.declared.cause.Cause.{Cause}
 use Rattle.octets.specs.declared.parcel.Parcel.{Parcel}

@@ -16,10 +16,15 @@ pub released : {A E : Type 0} (r : Result A E) (Becomes : Ports → Hop → Type
     (told : Option FragAnswer) (parcels given : List Parcel) (before between after : Hop) → ports ≡ own → told ≡ Some (Released parcels) → given ≡ parcels
     → Gains (Becomes ports) before between → OnOk r (Gains (Frees ports given) between after)
     → OnOk r (Gains (IsAnswered Becomes Frees own told) before after)
-released (Ok x) Becomes Frees ports own told parcels given before between after same is so (one, becomes, e) (more, frees, f) =
-    (then one more,
-        subst (λ (t : Option FragAnswer). IsAnswered Becomes Frees own t (then one more)) (sym is)
-            (one, more, subst (λ (q : Ports). Becomes q one) same becomes,
-                subst (λ (q : Ports). Frees q parcels more) same (subst (λ (ps : List Parcel). Frees ports ps more) so frees), refl),
-        f ∙ ap (λ (h : Hop). then h more) e ∙ then_then before one more)
+released (Ok x) Becomes Frees ports own told parcels given before between after same is so (one, becomes, e) (more, frees, f) = (
+  then one more,
+  subst (λ (t : Option FragAnswer). IsAnswered Becomes Frees own t (then one more)) (sym is) (
+    one,
+    more,
+    subst (λ (q : Ports). Becomes q one) same becomes,
+    subst (λ (q : Ports). Frees q parcels more) same (subst (λ (ps : List Parcel). Frees ports ps more) so frees),
+    refl,
+  ),
+  f ∙ ap (λ (h : Hop). then h more) e ∙ then_then before one more,
+)
 released (Err x) Becomes Frees ports own told parcels given before between after same is so one other = tt

@@ -12,7 +12,6 @@ use Rattle.packet_faults.specs.declared.hop.Hop.{Hop}
 use Rattle.packets.specs.declared.asked.Extent.TheVariants.{Later}
 use Rattle.packets.specs.declared.packet6.Packet6.{Packet6}
 use Rattle.packets.specs.Asked.{flow_of6, extent_of6}
-use Rattle.packets.specs.Behind6.{IsDropped6}
 use Rattle.packets.specs.Packet6.{IsPacket6}
 use Rattle.transit.specs.declared.exit.Exit.TheVariants.{ToAccess}
 use Rattle.transit.specs.declared.passage.Passage.{Passage}

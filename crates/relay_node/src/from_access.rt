@@ -66,7 +66,13 @@ fn refuse_unread6<V: RuleView>(
 }
 
 /// The IPv4 address of the packet's source, where it is a rule's MAP address of it for the port of the flow.
-fn source<V: RuleView>(view: &V, params: &RelayParams, id: u16, taken: &Packet6, ports: Ports) -> Option<Addr4>
+fn source<V: RuleView>(
+    view: &V,
+    params: &RelayParams,
+    id: u16,
+    taken: &Packet6,
+    ports: Ports,
+) -> Option<Addr4>
     ensures { result ≡ source_of (relay_at (V.rules view.now) (V.default_rule view.now) params.now id) taken.now.head.src (source_port (flow_of6 taken.now.content).fault ports) }
 {
     let port = if taken.flow().fault {
@@ -123,7 +129,17 @@ fn pass6<V: RuleView>(
 {
     let passage = passage64(alloc, params.mtus, taken, packet, ends, id)?;
     let exit = exit_to(view, ends.dst);
-    carry6(alloc, view, params, id, &taken.head, packet, exit, passage, hop)
+    carry6(
+        alloc,
+        view,
+        params,
+        id,
+        &taken.head,
+        packet,
+        exit,
+        passage,
+        hop,
+    )
 }
 
 /// What becomes of the packet where its flow has these ports.
@@ -241,7 +257,16 @@ fn answer6<V: RuleView>(
 {
     match told {
         Some(told) => told6(alloc, view, params, id, taken, packet, told, hop),
-        None => become6(alloc, view, params, id, taken, packet, taken.flow().ports, hop),
+        None => become6(
+            alloc,
+            view,
+            params,
+            id,
+            taken,
+            packet,
+            taken.flow().ports,
+            hop,
+        ),
     }
 }
 

@@ -101,7 +101,14 @@ fn far_end(taken: &Packet4) -> Addr4
 }
 
 /// The ends over IPv6, where the destination has this MAP address.
-fn ends<V: RuleView>(view: &V, params: &RelayParams, id: u16, taken: &Packet4, own: Addr6, ports: Ports) -> Ends<Addr6>
+fn ends<V: RuleView>(
+    view: &V,
+    params: &RelayParams,
+    id: u16,
+    taken: &Packet4,
+    own: Addr6,
+    ports: Ports,
+) -> Ends<Addr6>
     ensures { result ≡ ends46 (relay_at (V.rules view.now) (V.default_rule view.now) params.now id) taken.now own ports }
 {
     let dmr = view.dmr();
@@ -133,7 +140,13 @@ fn pass4<V: RuleView>(
 }
 
 /// The MAP address of the packet's destination for the port of the flow, where a rule gives one.
-fn own<V: RuleView>(view: &V, params: &RelayParams, id: u16, taken: &Packet4, ports: Ports) -> Option<Addr6>
+fn own<V: RuleView>(
+    view: &V,
+    params: &RelayParams,
+    id: u16,
+    taken: &Packet4,
+    ports: Ports,
+) -> Option<Addr6>
     ensures { option_map (λ own. own.0) result ≡ own_of (relay_at (V.rules view.now) (V.default_rule view.now) params.now id) taken.now.head.dst (destination_port (flow_of4 taken.now.content).fault ports) }
 {
     let port = if taken.flow().fault {
@@ -250,7 +263,16 @@ fn answer4<V: RuleView>(
 {
     match told {
         Some(told) => told4(alloc, view, params, id, taken, packet, told, hop),
-        None => become4(alloc, view, params, id, taken, packet, taken.flow().ports, hop),
+        None => become4(
+            alloc,
+            view,
+            params,
+            id,
+            taken,
+            packet,
+            taken.flow().ports,
+            hop,
+        ),
     }
 }
 

@@ -1,12 +1,12 @@
 //! The relay: one hop of a packet, from the access network or from IPv4, under the rules of one book (RFC 7599, section 8).
 #![tactic(auto)]
 
-mod params;
 mod asked;
 mod exit;
 mod from_access;
 mod from_ipv4;
 mod hop;
+mod params;
 
 pub use asked::{frag_of, stripe_of};
 pub use hop::relay_hop;

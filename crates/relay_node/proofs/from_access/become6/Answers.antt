@@ -13,8 +13,8 @@ returns-in_default g c =
     let relay = relay_at (g.V.RuleView.rules c.args.view.now) (g.V.RuleView.default_rule c.args.view.now) c.args.params.now c.args.id in
     let p = c.args.taken.now in
     gained c.drop_packet.result (Becomes6 relay p c.args.packet.now c.args.ports) c.args.hop.now c.drop_packet.new.hop (lost Spoofed)
-        (subst (λ (src : Option Addr4). IsSent6 relay p c.args.packet.now c.args.ports src (extracted relay.dmr p.head.dst) (lost Spoofed)) c.in_default.ensures refl)
-        c.drop_packet.ensures
+    (subst (λ (src : Option Addr4). IsSent6 relay p c.args.packet.now c.args.ports src (extracted relay.dmr p.head.dst) (lost Spoofed)) c.in_default.ensures refl)
+    c.drop_packet.ensures
 
 pub returns-in_default-extract : goal.returns-in_default-extract
 returns-in_default-extract g c =
@@ -22,6 +22,6 @@ returns-in_default-extract g c =
     let p = c.args.taken.now in
     let dst : None ≡ extracted relay.dmr p.head.dst = c.in_default-extract.ensures.value ∙ ap (λ (dmr : Dmr). extracted dmr p.head.dst) c.dmr.ensures in
     gained c.drop_packet-in_default-extract.result (Becomes6 relay p c.args.packet.now c.args.ports) c.args.hop.now c.drop_packet-in_default-extract.new.hop (lost NotDefault)
-        (subst (λ (src : Option Addr4). IsSent6 relay p c.args.packet.now c.args.ports src (extracted relay.dmr p.head.dst) (lost NotDefault)) c.in-Some.ensures
-            (subst (λ (d : Option ℕ). IsSent6 relay p c.args.packet.now c.args.ports (Some c.in-Some.src) d (lost NotDefault)) dst refl))
-        c.drop_packet-in_default-extract.ensures
+    (subst (λ (src : Option Addr4). IsSent6 relay p c.args.packet.now c.args.ports src (extracted relay.dmr p.head.dst) (lost NotDefault)) c.in-Some.ensures
+    (subst (λ (d : Option ℕ). IsSent6 relay p c.args.packet.now c.args.ports (Some c.in-Some.src) d (lost NotDefault)) dst refl))
+    c.drop_packet-in_default-extract.ensures

@@ -17,4 +17,4 @@ returns g c =
     let src : c.embedded-src.result ≡ embedded_in relay.dmr relay.params.relay4 = c.embedded-src.ensures ∙ ap (λ (dmr : Dmr). embedded_in dmr relay.params.relay4) c.dmr.ensures in
     let answer = subst (λ (s : Addr6). IsAnswer6 head c.args.packet.now s (notice6 relay.params.mtus head.left c.args.cause) reply) src (c.in_ok-reply.ensures.answer head c.requires.is) in
     gained c.drop_packet.result (IsRefused6 relay head c.args.packet.now c.args.cause) c.args.hop.now c.drop_packet.new.hop
-        (drops c.args.cause ToAccess reply) (reply, answer, refl) c.drop_packet.ensures
+    (drops c.args.cause ToAccess reply) (reply, answer, refl) c.drop_packet.ensures

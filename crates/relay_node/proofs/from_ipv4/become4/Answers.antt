@@ -12,13 +12,13 @@ pub returns-in_default : goal.returns-in_default
 returns-in_default g c =
     let relay = relay_at (g.V.RuleView.rules c.args.view.now) (g.V.RuleView.default_rule c.args.view.now) c.args.params.now c.args.id in
     gained c.drop_packet.result (Becomes4 relay c.args.taken.now c.args.packet.now c.args.ports) c.args.hop.now c.drop_packet.new.hop (lost NoOwner)
-        (subst (λ (own : Option ℕ). IsSent4 relay c.args.taken.now c.args.packet.now c.args.ports own (lost NoOwner)) c.in_default.ensures refl)
-        c.drop_packet.ensures
+    (subst (λ (own : Option ℕ). IsSent4 relay c.args.taken.now c.args.packet.now c.args.ports own (lost NoOwner)) c.in_default.ensures refl)
+    c.drop_packet.ensures
 
 pub returns : goal.returns
 returns g c =
     let relay = relay_at (g.V.RuleView.rules c.args.view.now) (g.V.RuleView.default_rule c.args.view.now) c.args.params.now c.args.id in
     widened c.pass4.result (IsPassed4 relay c.args.taken.now c.args.packet.now c.ends-ends.result) (Becomes4 relay c.args.taken.now c.args.packet.now c.args.ports) c.args.hop.now c.pass4.new.hop
-        (λ hop passed. subst (λ (own : Option ℕ). IsSent4 relay c.args.taken.now c.args.packet.now c.args.ports own hop) c.in-Some.ensures
-            (subst (λ (ends : Ends Addr6). IsPassed4 relay c.args.taken.now c.args.packet.now ends hop) c.ends-ends.ensures passed))
-        c.pass4.ensures
+    (λ hop passed. subst (λ (own : Option ℕ). IsSent4 relay c.args.taken.now c.args.packet.now c.args.ports own hop) c.in-Some.ensures
+    (subst (λ (ends : Ends Addr6). IsPassed4 relay c.args.taken.now c.args.packet.now ends hop) c.ends-ends.ensures passed))
+    c.pass4.ensures

@@ -12,11 +12,11 @@ returns-in-Sent g c =
     let relay = relay_at (g.V.RuleView.rules c.args.view.now) (g.V.RuleView.default_rule c.args.view.now) c.args.params.now c.args.id in
     let one = sends ToAccess c.in-Sent.octets in
     gained c.send.result (IsCarried (IsRefused4 relay c.args.head.now c.args.packet.now) ToAccess c.args.passage) c.args.hop.now c.send.new.hop one
-        (subst (λ (p : Passage). IsCarried (IsRefused4 relay c.args.head.now c.args.packet.now) ToAccess p one) (sym c.in-Sent.is) refl) c.send.ensures
+    (subst (λ (p : Passage). IsCarried (IsRefused4 relay c.args.head.now c.args.packet.now) ToAccess p one) (sym c.in-Sent.is) refl) c.send.ensures
 
 pub returns-in-Cut : goal.returns-in-Cut
 returns-in-Cut g c =
     let relay = relay_at (g.V.RuleView.rules c.args.view.now) (g.V.RuleView.default_rule c.args.view.now) c.args.params.now c.args.id in
     let one = sends_pieces ToAccess c.in-Cut.pieces in
     gained c.send_pieces.result (IsCarried (IsRefused4 relay c.args.head.now c.args.packet.now) ToAccess c.args.passage) c.args.hop.now c.send_pieces.new.hop one
-        (subst (λ (p : Passage). IsCarried (IsRefused4 relay c.args.head.now c.args.packet.now) ToAccess p one) (sym c.in-Cut.is) refl) c.send_pieces.ensures
+    (subst (λ (p : Passage). IsCarried (IsRefused4 relay c.args.head.now c.args.packet.now) ToAccess p one) (sym c.in-Cut.is) refl) c.send_pieces.ensures

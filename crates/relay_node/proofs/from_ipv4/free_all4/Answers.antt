@@ -24,4 +24,4 @@ loop-parcel-preserved g c =
     let within : i < length parcels = c.loop-parcel-test.true in
     let e : take i parcels ++ item ∷ [] ≡ take (i + 1) parcels = ap (λ (x : Parcel). take i parcels ++ x ∷ []) c.parcel-item.is ∙ sym (take_more parcels i item within) in
     subst (λ (ps : List Parcel). Gains (AreFreed4 relay c.args.ports ps) c.args.hop.now c.free4.new.hop) e
-        (freed_more IsLater4 (IsOne4 relay c.args.ports) (take i parcels) item c.args.hop.now c.loop-parcel.hop c.free4.new.hop c.loop-parcel.invariant freed)
+    (freed_more IsLater4 (IsOne4 relay c.args.ports) (take i parcels) item c.args.hop.now c.loop-parcel.hop c.free4.new.hop c.loop-parcel.invariant freed)

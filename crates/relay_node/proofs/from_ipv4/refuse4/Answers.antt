@@ -11,6 +11,6 @@ returns g c =
     let relay = relay_at (g.V.RuleView.rules c.args.view.now) (g.V.RuleView.default_rule c.args.view.now) c.args.params.now c.args.id in
     let reply = c.in_ok-reply.reply in
     gained c.drop_packet.result (IsRefused4 relay c.args.head.now c.args.packet.now c.args.cause) c.args.hop.now c.drop_packet.new.hop
-        (drops c.args.cause c.exit_to.result reply)
-        (reply, c.in_ok-reply.ensures.answer c.args.head.now c.requires.is, ap (λ (exit : Exit). drops c.args.cause exit reply) c.exit_to.ensures)
-        c.drop_packet.ensures
+    (drops c.args.cause c.exit_to.result reply)
+    (reply, c.in_ok-reply.ensures.answer c.args.head.now c.requires.is, ap (λ (exit : Exit). drops c.args.cause exit reply) c.exit_to.ensures)
+    c.drop_packet.ensures
