@@ -1,0 +1,4 @@
+pub mod Gained
+pub mod Faults
+pub mod Later
+pub mod Told

@@ -1,0 +1,17 @@
+use Rattle.std.proofs.Common.{◌∙◌, ap, inl, Bor, Err}
+use Rattle.std.specs.Option.{option_map}
+use Rattle.frag_table.specs.declared.answer.FragAnswer.{FragAnswer}
+use Rattle.packets.specs.Behind4.{IsDropped4}
+use Rattle.relay_node.specs.Relay.{relay_at}
+use Rattle.relay_node.specs.FromIpv4.{IsFaulty4}
+use Rattle.relay_node.specs.Hop.{IsHop4}
+use Rattle.relay_node.proofs.Gained.{widened}
+use Rattle.relay_node.proofs.from_ipv4.take4.Goals as goal
+
+pub returns-in-Err-Drop : goal.returns-in-Err-Drop
+returns-in-Err-Drop g c =
+    let relay = relay_at (g.V.RuleView.rules c.args.view.now) (g.V.RuleView.default_rule c.args.view.now) c.args.params.now c.args.id in
+    let cause = c.in-Err-Drop.cause in
+    let dropped : IsDropped4 cause c.args.packet.now = c.read.ensures.refused cause (c.in-Err-Drop.is ∙ ap Err c.in-Err-Drop.field-0-is) in
+    widened c.refuse_unread4.result (IsFaulty4 relay c.args.packet.now cause) (IsHop4 relay c.args.packet.now (option_map (λ (a : Bor FragAnswer). a.now) c.args.told))
+    c.args.hop.now c.refuse_unread4.new.hop (λ hop faulty. inl (cause, dropped, faulty)) c.refuse_unread4.ensures

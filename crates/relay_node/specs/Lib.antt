@@ -1,0 +1,6 @@
+pub mod Asked
+pub mod Relay
+pub mod Gains
+pub mod FromAccess
+pub mod FromIpv4
+pub mod Hop

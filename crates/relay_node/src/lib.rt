@@ -1,0 +1,16 @@
+//! The relay: one hop of a packet, from the access network or from IPv4, under the rules of one book (RFC 7599, section 8).
+#![tactic(auto)]
+
+mod asked;
+mod exit;
+mod from_access;
+mod from_ipv4;
+mod hop;
+mod params;
+
+pub use asked::{frag_of, stripe_of};
+pub use hop::relay_hop;
+pub use params::RelayParams;
+
+#[cfg(test)]
+mod tests;
