@@ -4,3 +4,4 @@ pub mod Gains
 pub mod FromAccess
 pub mod FromIpv4
 pub mod Hop
+pub mod Route
