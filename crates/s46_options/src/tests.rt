@@ -13,6 +13,12 @@ const WORKED: [u8; 34] = [
     0x00, 0x00,
 ];
 
+/// The rule of the worked container with a reserved flag.
+const RESERVED_RULE: &[u8] = &[
+    0x00, 0x59, 0x00, 0x0d, 0x03, 0x10, 0x18, 0xc0, 0x00, 0x02, 0x00, 0x28, 0x20, 0x01, 0x0d, 0xb8,
+    0x00,
+];
+
 /// A container with port parameters and options that aren't known.
 const FULL: &str =
     "005f00360059001c011018c00002002820010db800005d0004040834000007000378797a005b00094020010db8ffff0000005d000101005f0000";
@@ -320,14 +326,15 @@ fn the_first_fault_is_told(rt: HostRuntime) -> Result<(), Fail> {
     Ok(())
 }
 
-/// A container of so many rules and the default mapping rule, filled with another option to so many octets
-/// inside.
-fn many_rules(alloc: Global, rules: u32, inside: u16) -> Result<Bytes, NoMemory> {
+/// A container of 256 rules, of what follows them, and of the default mapping rule, filled with another option to
+/// so many octets inside.
+fn many_rules(alloc: Global, then: &[u8], inside: u16) -> Result<Bytes, NoMemory> {
     let mut octets = Bytes::new(alloc);
     octets.extend(&[0, 95, (inside / 256) as u8, (inside % 256) as u8])?;
-    for _i in 0..rules {
+    for _i in 0..256u32 {
         octets.extend(&WORKED[4..21])?;
     }
+    octets.extend(then)?;
     octets.extend(&WORKED[21..])?;
     let rest = (usize::from(inside) + 4).saturating_sub(octets.as_slice().len() + 4);
     octets.extend(&[1, 0, (rest / 256 % 256) as u8, (rest % 256) as u8])?;
@@ -337,16 +344,20 @@ fn many_rules(alloc: Global, rules: u32, inside: u16) -> Result<Bytes, NoMemory>
     Ok(octets)
 }
 
+/// The 257th rule is told before what is wrong inside of it.
 #[test]
 fn the_257th_rule_is_told(rt: HostRuntime) -> Result<(), Fail> {
     let alloc = rt.alloc();
-    let most = many_rules(alloc, 256, 65535)?;
+    let most = many_rules(alloc, &[], 65535)?;
     assert!(rt; most.as_slice().len() == 65539);
     let container = read_container(alloc, most.as_slice())?;
     assert!(rt; write_container(alloc, &container)?.as_slice() == most.as_slice());
-    let over = many_rules(alloc, 257, 65535)?;
+    let over = many_rules(alloc, &WORKED[4..21], 65535)?;
     assert!(rt; over.as_slice().len() == 65539);
     let refused = read_container(alloc, over.as_slice());
+    assert!(rt; refused.err() == Some(OptionFault::TooManyRules(4 + 256 * 17)));
+    let flagged = many_rules(alloc, RESERVED_RULE, 65535)?;
+    let refused = read_container(alloc, flagged.as_slice());
     assert!(rt; refused.err() == Some(OptionFault::TooManyRules(4 + 256 * 17)));
     Ok(())
 }
