@@ -25,7 +25,7 @@ use Rattle.xlat46.specs.Head.{is_fragment, upper_protocol, translated as transla
 use Rattle.xlat46.specs.Whole.{Parts4, lacks_sum, has_no_sum, sum46, payload46}
 use Rattle.xlat46.proofs.RightSums.{computed}
 use Rattle.xlat64.proofs.RightSums.{changed as right_over_ipv4}
-use Rattle.ip6_packet.specs.Grammar.{payload_of as payload_of6}
+use Rattle.ip6_packet.specs.Grammar.{payload_of6}
 use Rattle.std.proofs.lemmas.List.{places}
 use Rattle.xlat64.specs.Head.{protocol_of, translated as translated64}
 use Rattle.xlat64.specs.Whole.{Parts6, IsCarried6, sum64, payload64, packet64}

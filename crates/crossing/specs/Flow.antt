@@ -8,7 +8,7 @@ use Rattle.ip6_packet.specs.Grammar.{Is6}
 use Rattle.l4_headers.specs.declared.ports.Ports.{Ports}
 use Rattle.l4_headers.specs.Transport.{l4_of}
 use Rattle.xlat46.specs.Head.{is_fragment}
-use Rattle.xlat46.specs.Whole.{Parts4, HasNoCause46, packet46}
+use Rattle.xlat46.specs.Whole.{Parts4, HasNoTcpUdpCause4, packet46}
 use Rattle.xlat64.specs.Whole.{Parts6, packet64}
 use Rattle.crossing.specs.Packet.{flow_of}
 use Rattle.crossing.specs.Nat44.{sent_from}
@@ -33,7 +33,7 @@ on_access w = packet46 w.parts w.src6 w.dst6 (Some (outer_ports w))
 
 -- the octets are that packet, it is whole, lasts for both nodes and fits both versions, and numbers fit their fields
 pub record IsOutward (w : Outward) (octets : List ℕ) : Type 0 where
-  pub sound : HasNoCause46 w.parts octets
+  pub sound : HasNoTcpUdpCause4 w.parts octets
   pub whole : is_fragment w.parts.head ≡ false
   pub lasts : 3 ≤ w.parts.head.ttl
   pub fits : w.parts.head.total - w.parts.head.head_len ≤ 65515

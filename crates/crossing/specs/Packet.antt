@@ -4,8 +4,8 @@ use Rattle.octets.specs.Protocol.{proto4}
 use Rattle.octets.specs.declared.proto.Proto.{Proto}
 use Rattle.octets.specs.declared.proto.Proto.TheVariants.{Icmp}
 use Rattle.ip4_packet.specs.declared.head.Head4.{Head4}
-use Rattle.ip4_packet.specs.Grammar.{Is4, payload_of}
-use Rattle.ip4_packet.specs.Causes.{HasNoCause4}
+use Rattle.ip4_packet.specs.Grammar.{Is4, payload_of4}
+use Rattle.ip4_packet.specs.Causes.{HasNoHeaderCause4}
 use Rattle.l4_headers.specs.declared.ports.Ports.{Ports}
 use Rattle.l4_headers.specs.Transport.{l4_of, IsBadTransport}
 use Rattle.icmp_messages.specs.declared.icmp4.Icmp4.{Icmp4}
@@ -53,9 +53,9 @@ IsContent head octets (error m inner) =
 
 -- the octets are this packet
 pub record IsPacket4 (p : Packet4) (octets : List ℕ) : Type 0 where
-  pub is : Is4 p.head (payload_of p.head octets) octets
-  pub header : HasNoCause4 octets
-  pub content : IsContent p.head (payload_of p.head octets) p.content
+  pub is : Is4 p.head (payload_of4 p.head octets) octets
+  pub header : HasNoHeaderCause4 octets
+  pub content : IsContent p.head (payload_of4 p.head octets) p.content
 
 -- a packet of TCP or UDP by its parts, with the ports that it came with
 abbrev pub flow_of : Parts4 → Packet4

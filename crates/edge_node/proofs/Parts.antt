@@ -7,10 +7,10 @@ use Rattle.octets.specs.declared.cause.Cause.{Cause}
 use Rattle.octets.specs.declared.cause.Cause.TheVariants.{NotIp, Truncated, BadHeader, BadHeaderSum, BadDestination, SourceRoute, UnsupportedProtocol, IcmpFragment, BadTransport, IcmpSum, IcmpKind, BadInner, NoUdpSum, NoBasicRule, WrongDestination, FragmentsFull, Spoofed, NotDefault, NoOwner, NoBinding, NoPort, TtlSpent, TooBig as IsTooBig}
 use Rattle.octets.specs.declared.parcel.Parcel.{Parcel}
 use Rattle.ip4_packet.specs.declared.head.Head4.{Head4}
-use Rattle.ip4_packet.specs.Grammar.{payload_of as payload_of4, Is4}
+use Rattle.ip4_packet.specs.Grammar.{payload_of4, Is4}
 use Rattle.ip6_packet.specs.declared.head.Head6.{Head6}
-use Rattle.ip6_packet.specs.Grammar.{payload_of as payload_of6, Is6}
-use Rattle.ip6_packet.specs.Causes.{HasNoCause6}
+use Rattle.ip6_packet.specs.Grammar.{payload_of6, Is6}
+use Rattle.ip6_packet.specs.Causes.{HasNoHeaderCause6}
 use Rattle.packet_faults.specs.declared.hop.Hop.{Hop}
 use Rattle.packets.specs.Behind4.{IsDropped4}
 use Rattle.packets.specs.Behind6.{IsDropped6}
@@ -105,7 +105,7 @@ readable6 _ octets (inl header) notice = absurd header.0
 
 -- what can't be read has no notice
 pub unreadable : (cause : Cause) (octets : List ℕ) (r : Result Head6 Cause) (other : Cause) → r ≡ Err other
-    → ((h : Head6) (payload : List ℕ) → Is6 h payload octets → HasNoCause6 octets → r ≡ Ok h) → (IsTrue (has_notice cause) → IsReadable6 octets)
+    → ((h : Head6) (payload : List ℕ) → Is6 h payload octets → HasNoHeaderCause6 octets → r ≡ Ok h) → (IsTrue (has_notice cause) → IsReadable6 octets)
     → has_notice cause ≡ false
 unreadable cause octets r other err only readable = elim (either (has_notice cause)) [
   | inl without ↦ without

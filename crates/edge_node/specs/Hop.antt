@@ -9,11 +9,11 @@ use Rattle.octets.specs.declared.address.Addr4.{Addr4}
 use Rattle.octets.specs.declared.address.Addr6.{Addr6}
 use Rattle.octets.specs.Cause.{number_of}
 use Rattle.ip4_packet.specs.declared.head.Head4.{Head4}
-use Rattle.ip4_packet.specs.Grammar.{payload_of as payload_of4, Is4}
-use Rattle.ip4_packet.specs.Causes.{HasNoCause4}
+use Rattle.ip4_packet.specs.Grammar.{payload_of4, Is4}
+use Rattle.ip4_packet.specs.Causes.{HasNoHeaderCause4}
 use Rattle.ip6_packet.specs.declared.head.Head6.{Head6}
-use Rattle.ip6_packet.specs.Grammar.{payload_of as payload_of6, Is6}
-use Rattle.ip6_packet.specs.Causes.{HasNoCause6}
+use Rattle.ip6_packet.specs.Grammar.{payload_of6, Is6}
+use Rattle.ip6_packet.specs.Causes.{HasNoHeaderCause6}
 use Rattle.octets.specs.declared.proto.Proto.{Proto}
 use Rattle.nat_model.specs.declared.answer.Answer.{Answer}
 use Rattle.nat_model.specs.declared.answer.Answer.TheVariants.{Out, Turn, In, Kept, Held, Refused}
@@ -64,10 +64,10 @@ Drops node Turned octets cause hop = hop ≡ drops cause ToLan None
 
 -- the header of the packet can be read, so that an error may answer it
 abbrev pub IsReadable4 : List ℕ → Type 0
-IsReadable4 octets = (h : Head4) × Is4 h (payload_of4 h octets) octets × HasNoCause4 octets
+IsReadable4 octets = (h : Head4) × Is4 h (payload_of4 h octets) octets × HasNoHeaderCause4 octets
 
 abbrev pub IsReadable6 : List ℕ → Type 0
-IsReadable6 octets = (h : Head6) × Is6 h (payload_of6 h octets) octets × HasNoCause6 octets
+IsReadable6 octets = (h : Head6) × Is6 h (payload_of6 h octets) octets × HasNoHeaderCause6 octets
 
 -- it goes out, between these addresses and from this port
 abbrev pub GoesOut : Node → List ℕ → ℕ → Addr6 → Addr6 → Packet4 → Hop → Type 0

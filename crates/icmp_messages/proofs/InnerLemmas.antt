@@ -3,7 +3,7 @@ use Rattle.std.proofs.Common.{◌≡◌, ℕ, ◌≤◌, List, length, inl, inr,
 use Rattle.octets.specs.declared.proto.Proto.{Proto}
 use Rattle.ip6_packet.specs.declared.head.Head6.{Head6}
 use Rattle.ip6_packet.specs.Fragment.{fragment_offset}
-use Rattle.ip6_packet.specs.Grammar.{payload_of as payload_of6}
+use Rattle.ip6_packet.specs.Grammar.{payload_of6}
 use Rattle.ip6_packet.proofs.EmbeddedLemmas.{same_headers6, lacks_none6}
 use Rattle.ip6_packet.specs.Embedded.{HasHeaders6}
 use Rattle.icmp_messages.specs.Inner.{IsCarried6, IsBadBehind6, IsBadInner6}

@@ -7,12 +7,12 @@ use Rattle.octets.specs.Field.{octet}
 use Rattle.octets.specs.declared.proto.Proto.{Proto}
 use Rattle.octets.specs.declared.proto.Proto.TheVariants.{Tcp, Udp, Icmp}
 use Rattle.ip4_packet.specs.declared.head.Head4.{Head4}
-use Rattle.ip4_packet.specs.Grammar.{payload_of as payload_of4}
+use Rattle.ip4_packet.specs.Grammar.{payload_of4}
 use Rattle.ip4_packet.specs.Embedded.{HasHeader4, LacksHeader4}
 use Rattle.ip6_packet.specs.declared.head.Head6.{Head6}
 use Rattle.ip6_packet.specs.declared.head.Frag6.{Frag6}
 use Rattle.ip6_packet.specs.Fragment.{fragment_offset}
-use Rattle.ip6_packet.specs.Grammar.{payload_of as payload_of6}
+use Rattle.ip6_packet.specs.Grammar.{payload_of6}
 use Rattle.ip6_packet.specs.Embedded.{HasHeaders6, LacksHeaders6}
 use Rattle.l4_headers.specs.Transport.{l4_of}
 use Rattle.icmp_messages.specs.declared.inner4.Inner4.{Inner4}

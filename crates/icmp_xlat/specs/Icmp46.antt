@@ -6,8 +6,8 @@ use Rattle.octets.specs.declared.cause.Cause.TheVariants.{IcmpKind}
 use Rattle.octets.specs.declared.cause.Fault.{Fault}
 use Rattle.octets.specs.declared.cause.Fault.TheVariants.{Drop, NoMemory}
 use Rattle.ip4_packet.specs.declared.head.Head4.{Head4}
-use Rattle.ip4_packet.specs.Grammar.{payload_of, Is4}
-use Rattle.ip4_packet.specs.Causes.{HasNoCause4}
+use Rattle.ip4_packet.specs.Grammar.{payload_of4, Is4}
+use Rattle.ip4_packet.specs.Causes.{HasNoHeaderCause4}
 use Rattle.ip6_packet.specs.Written.{written6}
 use Rattle.icmp_messages.specs.declared.icmp4.Icmp4.{Icmp4}
 use Rattle.icmp_messages.specs.declared.icmp6.Icmp6.{Icmp6}
@@ -59,12 +59,12 @@ with_message46 head m ends =
 -- the octets are an ICMPv4 packet of this header and message, that has none of the causes for which it is dropped
 -- but perhaps that it has no translation
 pub record IsMessage46 (head : Head4) (m : Icmp4) (octets : List ℕ) : Type 0 where
-  pub is : Is4 head (payload_of head octets) octets
-  pub header : HasNoCause4 octets
+  pub is : Is4 head (payload_of4 head octets) octets
+  pub header : HasNoHeaderCause4 octets
   pub protocol : head.proto ≡ 1
   pub unrouted : head.routed ≡ false
   pub whole : is_fragment head ≡ false
-  pub message : IsIcmp4 m (payload_of head octets)
+  pub message : IsIcmp4 m (payload_of4 head octets)
 
 -- the message has no translation: no row of the table, or no row of the table of pointers
 abbrev pub LacksPointer46 : Icmp4 → Option Row → Type 0

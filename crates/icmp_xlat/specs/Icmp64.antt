@@ -9,8 +9,8 @@ use Rattle.octets.specs.declared.cause.Fault.{Fault}
 use Rattle.octets.specs.declared.cause.Fault.TheVariants.{Drop, NoMemory}
 use Rattle.ip4_packet.specs.Written.{written4}
 use Rattle.ip6_packet.specs.declared.head.Head6.{Head6}
-use Rattle.ip6_packet.specs.Grammar.{payload_of, Is6}
-use Rattle.ip6_packet.specs.Causes.{HasNoCause6}
+use Rattle.ip6_packet.specs.Grammar.{payload_of6, Is6}
+use Rattle.ip6_packet.specs.Causes.{HasNoHeaderCause6}
 use Rattle.ip6_packet.specs.Fragment.{more_fragments, fragment_offset}
 use Rattle.icmp_messages.specs.declared.icmp4.Icmp4.{Icmp4}
 use Rattle.icmp_messages.specs.declared.icmp6.Icmp6.{Icmp6}
@@ -60,13 +60,13 @@ with_message64 head m ends id =
 -- the octets are an ICMPv6 packet of these headers and this message, that has none of the causes for which it is
 -- dropped but perhaps that it has no translation
 pub record IsMessage64 (head : Head6) (m : Icmp6) (octets : List ℕ) : Type 0 where
-  pub is : Is6 head (payload_of head octets) octets
-  pub header : HasNoCause6 octets
+  pub is : Is6 head (payload_of6 head octets) octets
+  pub header : HasNoHeaderCause6 octets
   pub protocol : head.upper ≡ 58
   pub unrouted : head.left ≡ None
   pub offset : fragment_offset head.frag ≡ 0
   pub whole : more_fragments head.frag ≡ false
-  pub message : IsIcmp6 head.src head.dst m (payload_of head octets)
+  pub message : IsIcmp6 head.src head.dst m (payload_of6 head octets)
 
 -- the message has no translation: no row of the table, or no row of the table of pointers
 abbrev pub LacksPointer64 : Icmp6 → Option Row → Type 0
@@ -101,4 +101,4 @@ pub record IsAccepted64 (octets : List ℕ) : Type 0 where
   pub is : IsMessage64 head message octets
   pub alive : 2 ≤ head.hop
   pub embeds : EmbedsOne64 message (row_of table64 message.kind message.code)
-  pub fits : octet (payload_of head octets) 0 ≡ 128 ⊎ octet (payload_of head octets) 0 ≡ 129 → head.length ≤ 65515
+  pub fits : octet (payload_of6 head octets) 0 ≡ 128 ⊎ octet (payload_of6 head octets) 0 ≡ 129 → head.length ≤ 65515

@@ -7,8 +7,8 @@ use Rattle.octets.specs.declared.cause.Cause.TheVariants.{NotIp, Truncated, BadH
 use Rattle.octets.specs.Cause.{number_of}
 use Rattle.ip4_packet.specs.declared.head.Head4.{Head4}
 use Rattle.octets.specs.Field.{octet, word, quad}
-use Rattle.ip4_packet.specs.Grammar.{header_len, total_len, option_octets, HasFields4, Is4, payload_of}
-use Rattle.ip4_packet.specs.Causes.{IsTruncated4, HasCause4, HasNoCause4, IsCause4, StaysRead4}
+use Rattle.ip4_packet.specs.Grammar.{header_len, total_len, option_octets, HasFields4, Is4, payload_of4}
+use Rattle.ip4_packet.specs.Causes.{IsTruncated4, HasCause4, HasNoHeaderCause4, IsCause4, StaysRead4}
 use Rattle.std.proofs.lemmas.List.{take-append-le, get_or_append_left, length-append}
 use Rattle.std.proofs.lemmas.Bool.{cases_lt}
 use Rattle.octets.proofs.Parts.{number-append, part-append}
@@ -144,9 +144,9 @@ refused_longer BadDestination octets more is ne some = kept BadDestination octet
 refused_longer _ octets more is ne some = absurd is.0
 
 -- what was read stays read
-pub stays : (read : Result Head4 Cause) (octets more : List ℕ) → IfOk read (λ h. Is4 h (payload_of h octets) octets × HasNoCause4 octets)
+pub stays : (read : Result Head4 Cause) (octets more : List ℕ) → IfOk read (λ h. Is4 h (payload_of4 h octets) octets × HasNoHeaderCause4 octets)
     → IfErr read (λ c. IsCause4 c octets) → StaysRead4 read octets (octets ++ more)
 stays (Ok h) octets more found refused =
     let is = long octets (found.1 Truncated) in
-    (longer_is h (payload_of h octets) octets more is found.0, λ c has. found.1 c (longer_has octets more is c has))
+    (longer_is h (payload_of4 h octets) octets more is found.0, λ c has. found.1 c (longer_has octets more is c has))
 stays (Err c) octets more found refused = λ ne some. refused_longer c octets more refused ne some

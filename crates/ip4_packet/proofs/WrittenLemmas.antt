@@ -9,7 +9,7 @@ use Rattle.octets.specs.Bits.{bit_of}
 use Rattle.octets.specs.Fragment.{IsWrongFragment}
 use Rattle.ip4_packet.specs.Written.{fragment_field, header_with, header4, written4, IsInRange}
 use Rattle.ip4_packet.specs.Grammar.{HasFields4, Is4}
-use Rattle.ip4_packet.specs.Causes.{IsNotIp4, IsTruncated4, IsBadHeader4, IsNoDestination4, HasNoCause4, IsSound4}
+use Rattle.ip4_packet.specs.Causes.{IsNotIp4, IsTruncated4, IsBadHeader4, IsNoDestination4, HasNoHeaderCause4, IsSound4}
 use Rattle.std.proofs.lemmas.List.{take_all}
 use Rattle.ip4_packet.proofs.OptionLemmas.{ends}
 use Rattle.ip4_packet.proofs.CauseLemmas.{spared, below}
@@ -17,7 +17,7 @@ use Rattle.ip4_packet.proofs.CauseLemmas.{spared, below}
 -- a packet whose fields, sum and destination are sound has no cause
 sound : (h : Head4) (payload octets : List ℕ) → Is4 h payload octets → IsRight (take h.head_len octets)
     → (IsWrongFragment h.offset (bit_of h.mf) (h.total - h.head_len) → ⊥) → (IsNoDestination4 h.dst.0 → ⊥)
-    → HasNoCause4 octets
+    → HasNoHeaderCause4 octets
 sound h payload octets is right agreed reachable c =
     spared octets 24 (λ _. other) (λ _. short) (λ _. bad) (λ _ wrong. wrong (rw (← is.fields.head_len) right)) (λ _. rw (← is.fields.dst) reachable) c (below c)
   where
@@ -77,7 +77,7 @@ written_fields h payload fits bare low = record {
 
 -- the written packet holds these fields and this payload, without a cause
 pub written_again : (h : Head4) (payload : List ℕ) → IsInRange h → h.head_len ≡ 20 → h.routed ≡ false → h.offset < 8192 → IsSound4 h payload
-    → Is4 h payload (written4 h payload) × HasNoCause4 (written4 h payload)
+    → Is4 h payload (written4 h payload) × HasNoHeaderCause4 (written4 h payload)
 written_again h payload fits bare unrouted low is_sound =
     (is, sound h payload (written4 h payload) is (rw bare (right h)) (rw length_is is_sound.1) is_sound.2)
   where

@@ -8,7 +8,7 @@ use Rattle.octets.specs.Fragment.{IsWrongFragment}
 use Rattle.octets.specs.Field.{octet, quad}
 use Rattle.inet_sum.specs.Sum.{IsRight}
 use Rattle.ip4_packet.specs.Options.{routed_in}
-use Rattle.ip4_packet.specs.Grammar.{header_len, total_len, more_flag, fragment_offset, option_octets, payload_of, Is4}
+use Rattle.ip4_packet.specs.Grammar.{header_len, total_len, more_flag, fragment_offset, option_octets, payload_of4, Is4}
 use Rattle.ip4_packet.specs.declared.head.Head4.{Head4}
 
 -- no octet, or another version
@@ -49,8 +49,8 @@ HasCause4 BadDestination octets = IsBadDestination4 octets
 HasCause4 _ octets = ⊥
 
 -- they have none
-abbrev pub HasNoCause4 : List ℕ → Type 0
-HasNoCause4 octets = HoldsNone (λ cause. HasCause4 cause octets)
+abbrev pub HasNoHeaderCause4 : List ℕ → Type 0
+HasNoHeaderCause4 octets = HoldsNone (λ cause. HasCause4 cause octets)
 
 -- the least cause that they have
 abbrev pub IsCause4 : Cause → List ℕ → Type 0
@@ -59,7 +59,7 @@ IsCause4 cause octets = IsLeast (λ cause. HasCause4 cause octets) cause
 -- What was read of the octets holds of a longer list of octets too. Only octets that were too few, or
 -- none, may be judged otherwise.
 abbrev pub StaysRead4 : Result Head4 Cause → List ℕ → List ℕ → Type 0
-StaysRead4 (Ok h) octets longer = Is4 h (payload_of h octets) longer × HasNoCause4 longer
+StaysRead4 (Ok h) octets longer = Is4 h (payload_of4 h octets) longer × HasNoHeaderCause4 longer
 StaysRead4 (Err cause) octets longer = cause ≢ Truncated → 0 < length octets → IsCause4 cause longer
 
 -- a header that is written in front of this payload has the exact total length, and fields that no reader

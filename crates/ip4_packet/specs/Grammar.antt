@@ -25,8 +25,8 @@ abbrev pub option_octets : List ℕ → List ℕ
 option_octets octets = part octets 20 (header_len octets - 20)
 
 -- the payload: what stands between the header and the total length
-abbrev pub payload_of : Head4 → List ℕ → List ℕ
-payload_of h octets = part octets h.head_len (h.total - h.head_len)
+abbrev pub payload_of4 : Head4 → List ℕ → List ℕ
+payload_of4 h octets = part octets h.head_len (h.total - h.head_len)
 
 -- the packet without the octets after its total length
 abbrev pub trimmed4 : Head4 → List ℕ → List ℕ
@@ -54,4 +54,4 @@ pub record Is4 (h : Head4) (payload octets : List ℕ) : Type 0 where
   pub total_fits : h.head_len ≤ h.total
   pub whole : h.total ≤ length octets
   pub options : routed_in 0 (option_octets octets) ≡ Some h.routed
-  pub payload_is : payload ≡ payload_of h octets
+  pub payload_is : payload ≡ payload_of4 h octets

@@ -1,7 +1,7 @@
 //! The packet inside an ICMP error (RFC 792), of which nothing but its header's place is judged.
 
 ghost use Rattle.std.specs.Prelude.{◌≡◌, IfSome, IfNone};
-ghost use Rattle.ip4_packet.specs.Grammar.{payload_of};
+ghost use Rattle.ip4_packet.specs.Grammar.{payload_of4};
 ghost use Rattle.ip4_packet.specs.Embedded.{HasHeader4, LacksHeader4};
 
 use crate::fault::{header_len, is_not_ip};
@@ -32,7 +32,7 @@ impl Head4 {
     /// The payload among the octets that begin with this header: those behind the header, up to the
     /// declared total length or, of a packet that was cut, as far as they stand.
     pub fn payload<'a>(&self, octets: &'a [u8]) -> &'a [u8]
-        ensures { result.now ≡ payload_of self.now octets.now }
+        ensures { result.now ≡ payload_of4 self.now octets.now }
     {
         let end = octets.len().min(usize::from(self.total));
         let start = end.min(usize::from(self.head_len));

@@ -1,7 +1,7 @@
 ghost use Rattle.std.specs.Prelude.{◌≡◌, ◌+◌, ◌<◌, ◌≤◌, length, IfOk, false};
 ghost use Rattle.ip4_packet.specs.Written.{written4, header4, header_with, fragment_field, IsInRange};
 ghost use Rattle.ip4_packet.specs.Grammar.{Is4};
-ghost use Rattle.ip4_packet.specs.Causes.{HasNoCause4, IsSound4};
+ghost use Rattle.ip4_packet.specs.Causes.{HasNoHeaderCause4, IsSound4};
 
 use crate::layout::{
     DESTINATION_AT, DONT_FRAGMENT, FRAGMENT_AT, HEADER_LEN, ID_AT, MORE_FRAGMENTS, PROTO_AT,
@@ -103,7 +103,7 @@ impl Head4 {
         requires offset { self.now.offset < 8192 }
         ensures written { IfOk result (λ octets. octets ≡ written4 self.now payload.now) }
         // What is written is read again as the same fields and payload.
-        ensures again { IsSound4 self.now payload.now → IfOk result (λ octets. Is4 self.now payload.now octets × HasNoCause4 octets) }
+        ensures again { IsSound4 self.now payload.now → IfOk result (λ octets. Is4 self.now payload.now octets × HasNoHeaderCause4 octets) }
     {
         let mut octets = Bytes::new(alloc);
         octets.extend(&self.header())?;

@@ -5,8 +5,8 @@ ghost use Rattle.octets.specs.Field.{octet};
 ghost use Rattle.octets.specs.declared.cause.Cause.{Cause as AnyCause};
 ghost use Rattle.ip4_packet.specs.declared.head.Head4.{Head4 as Header};
 ghost use Rattle.ip4_packet.specs.Options.{routed_in};
-ghost use Rattle.ip4_packet.specs.Grammar.{header_len, total_len, option_octets, more_flag, fragment_offset, payload_of, trimmed4, HasFields4, Is4};
-ghost use Rattle.ip4_packet.specs.Causes.{IsTruncated4, IsBadHeader4, HasNoCause4, IsCause4, StaysRead4};
+ghost use Rattle.ip4_packet.specs.Grammar.{header_len, total_len, option_octets, more_flag, fragment_offset, payload_of4, trimmed4, HasFields4, Is4};
+ghost use Rattle.ip4_packet.specs.Causes.{IsTruncated4, IsBadHeader4, HasNoHeaderCause4, IsCause4, StaysRead4};
 ghost use Rattle.octets.specs.Bits.{bit_of};
 
 use crate::fault::{
@@ -80,7 +80,7 @@ pub fn fields(octets: &[u8], routed: bool) -> Head4
 
 /// The header, or the least cause.
 fn decided(octets: &[u8]) -> Result<Head4, Cause>
-    ensures found { IfOk result (λ h. Is4 h (payload_of h octets.now) octets.now × HasNoCause4 octets.now) }
+    ensures found { IfOk result (λ h. Is4 h (payload_of4 h octets.now) octets.now × HasNoHeaderCause4 octets.now) }
     ensures refused { IfErr result (λ cause. IsCause4 cause octets.now) }
 {
     if is_not_ip(octets) {
@@ -110,9 +110,9 @@ impl Head4 {
     /// first that the octets have. No other refusal comes, and octets that have none are read.
     pub fn read(octets: &[u8]) -> Result<Head4, Cause>
         // What is read is what the octets hold, and they have no cause.
-        ensures found { IfOk result (λ h. Is4 h (payload_of h octets.now) octets.now × HasNoCause4 octets.now) }
+        ensures found { IfOk result (λ h. Is4 h (payload_of4 h octets.now) octets.now × HasNoHeaderCause4 octets.now) }
         // What the octets hold is read, where they have no cause.
-        ensures only { (h : Header) (payload : List ℕ) → Is4 h payload octets.now → HasNoCause4 octets.now → result ≡ Ok h }
+        ensures only { (h : Header) (payload : List ℕ) → Is4 h payload octets.now → HasNoHeaderCause4 octets.now → result ≡ Ok h }
         // A refusal is the least cause, and the least cause is a refusal.
         ensures refused { (cause : AnyCause) → (result ≡ Err cause) ↔ IsCause4 cause octets.now }
         // Octets that are added at the end change no answer but Truncated, and NotIp of no octet.

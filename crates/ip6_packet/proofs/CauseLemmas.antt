@@ -8,8 +8,8 @@ use Rattle.octets.specs.declared.cause.Cause.TheVariants.{NotIp, Truncated, BadH
 use Rattle.octets.specs.Cause.{number_of}
 use Rattle.octets.specs.Field.{octet, sixteen}
 use Rattle.ip6_packet.specs.declared.head.Head6.{Head6}
-use Rattle.ip6_packet.specs.Grammar.{payload_len, payload_of, chain_of, HasFields6, Is6}
-use Rattle.ip6_packet.specs.Causes.{IsTruncated6, HasCause6, HasNoCause6, IsCause6, StaysRead6}
+use Rattle.ip6_packet.specs.Grammar.{payload_len, payload_of6, chain_of, HasFields6, Is6}
+use Rattle.ip6_packet.specs.Causes.{IsTruncated6, HasCause6, HasNoHeaderCause6, IsCause6, StaysRead6}
 use Rattle.octets.proofs.Parts.{number-append, part-append}
 
 -- octets that have none of the four causes below a number have no cause below it
@@ -120,9 +120,9 @@ refused_longer BadDestination octets more is ne some = kept BadDestination octet
 refused_longer _ octets more is ne some = absurd is.0
 
 -- what was read stays read
-pub stays : (read : Result Head6 Cause) (octets more : List ℕ) → IfOk read (λ h. Is6 h (payload_of h octets) octets × HasNoCause6 octets)
+pub stays : (read : Result Head6 Cause) (octets more : List ℕ) → IfOk read (λ h. Is6 h (payload_of6 h octets) octets × HasNoHeaderCause6 octets)
     → IfErr read (λ c. IsCause6 c octets) → StaysRead6 read octets (octets ++ more)
 stays (Ok h) octets more found refused =
     let is = long octets (found.1 Truncated) in
-    (longer_is h (payload_of h octets) octets more is found.0, λ c has. found.1 c (longer_has octets more is c has))
+    (longer_is h (payload_of6 h octets) octets more is found.0, λ c has. found.1 c (longer_has octets more is c has))
 stays (Err c) octets more found refused = λ ne some. refused_longer c octets more refused ne some

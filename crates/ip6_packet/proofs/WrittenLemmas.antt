@@ -9,7 +9,7 @@ use Rattle.octets.specs.Bits.{bit_of}
 use Rattle.ip6_packet.specs.Written.{fragment_header, fragment_part, next_header, fixed_header, written6, IsUpper, IsPlaced, IsInRange, FitsFrag, IsPacket6}
 use Rattle.ip6_packet.specs.Chain.{is_sized, frag_of, chain_in}
 use Rattle.ip6_packet.specs.Grammar.{payload_len, HasFields6, Is6}
-use Rattle.ip6_packet.specs.Causes.{IsNotIp6, IsTruncated6, IsBadHeader6, IsWrongFrag6, IsNoDestination6, HasNoCause6, IsSound6}
+use Rattle.ip6_packet.specs.Causes.{IsNotIp6, IsTruncated6, IsBadHeader6, IsWrongFrag6, IsNoDestination6, HasNoHeaderCause6, IsSound6}
 use Rattle.ip6_packet.proofs.ChainLemmas.{tail}
 use Rattle.octets.proofs.Parts.{number_back}
 use Rattle.octets.proofs.CauseNumbers.{below}
@@ -18,7 +18,7 @@ use Rattle.ip6_packet.proofs.CauseLemmas.{spared}
 -- a packet whose fields and destination are sound has no cause
 sound : (h : Head6) (payload octets : List ℕ) → Is6 h payload octets → 40 ≤ length octets
     → (IsWrongFrag6 h.frag h.length → ⊥) → (IsNoDestination6 h.dst.0 → ⊥)
-    → HasNoCause6 octets
+    → HasNoHeaderCause6 octets
 sound h payload octets is enough agreed reachable c =
     spared octets 24 (λ _. other) (λ _. short) (λ _. bad) (λ _. rw (← is.fields.dst) reachable) c (below c)
   where
@@ -115,7 +115,7 @@ written_is6 h payload octets form = rw form.written is
     }
 
 -- and has no cause
-pub written_again : (h : Head6) (payload octets : List ℕ) → IsPacket6 h payload octets → IsSound6 h payload → Is6 h payload octets × HasNoCause6 octets
+pub written_again : (h : Head6) (payload octets : List ℕ) → IsPacket6 h payload octets → IsSound6 h payload → Is6 h payload octets × HasNoHeaderCause6 octets
 written_again h payload octets form is_sound =
     let is = written_is6 h payload octets form in
     (is, sound h payload octets is (omega (arith, is.whole)) (rw is_sound.0 is_sound.1) is_sound.2)

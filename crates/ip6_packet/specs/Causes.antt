@@ -9,7 +9,7 @@ use Rattle.octets.specs.Field.{octet, sixteen}
 use Rattle.ip6_packet.specs.declared.head.Frag6.{Frag6}
 use Rattle.ip6_packet.specs.declared.head.Head6.{Head6}
 use Rattle.ip6_packet.specs.declared.chain.Chain.{Chain}
-use Rattle.ip6_packet.specs.Grammar.{payload_len, payload_of, chain_of, Is6}
+use Rattle.ip6_packet.specs.Grammar.{payload_len, payload_of6, chain_of, Is6}
 
 -- no octet, or another version
 abbrev pub IsNotIp6 : List ℕ → Type 0
@@ -48,8 +48,8 @@ HasCause6 BadDestination octets = IsBadDestination6 octets
 HasCause6 _ octets = ⊥
 
 -- they have none
-abbrev pub HasNoCause6 : List ℕ → Type 0
-HasNoCause6 octets = HoldsNone (λ cause. HasCause6 cause octets)
+abbrev pub HasNoHeaderCause6 : List ℕ → Type 0
+HasNoHeaderCause6 octets = HoldsNone (λ cause. HasCause6 cause octets)
 
 -- the least cause that they have
 abbrev pub IsCause6 : Cause → List ℕ → Type 0
@@ -58,7 +58,7 @@ IsCause6 cause octets = IsLeast (λ cause. HasCause6 cause octets) cause
 -- What was read of the octets holds of a longer list of octets too. Only octets that were too few, or
 -- none, may be judged otherwise.
 abbrev pub StaysRead6 : Result Head6 Cause → List ℕ → List ℕ → Type 0
-StaysRead6 (Ok h) octets longer = Is6 h (payload_of h octets) longer × HasNoCause6 longer
+StaysRead6 (Ok h) octets longer = Is6 h (payload_of6 h octets) longer × HasNoHeaderCause6 longer
 StaysRead6 (Err cause) octets longer = cause ≢ Truncated → 0 < length octets → IsCause6 cause longer
 
 -- headers that are written in front of this payload have its exact length, and fields that no reader refuses

@@ -23,8 +23,8 @@ pub record HasFields6 (h : Head6) (octets : List ℕ) : Type 0 where
   pub dst : h.dst.0 ≡ sixteen octets 24
 
 -- the payload: the octets of the upper protocol
-abbrev pub payload_of : Head6 → List ℕ → List ℕ
-payload_of h octets = part octets h.start h.length
+abbrev pub payload_of6 : Head6 → List ℕ → List ℕ
+payload_of6 h octets = part octets h.start h.length
 
 -- the packet without the octets after its payload length
 abbrev pub trimmed6 : Head6 → List ℕ → List ℕ
@@ -36,4 +36,4 @@ pub record Is6 (h : Head6) (payload octets : List ℕ) : Type 0 where
   pub chain : chain_of octets ≡ Some (record { upper = h.upper; start = h.start; frag = h.frag; left = h.left })
   pub ends : h.start + h.length ≡ 40 + payload_len octets
   pub whole : 40 + payload_len octets ≤ length octets
-  pub payload_is : payload ≡ payload_of h octets
+  pub payload_is : payload ≡ payload_of6 h octets

@@ -2,7 +2,7 @@
 //! judged.
 
 ghost use Rattle.std.specs.Prelude.{◌≡◌, ◌+◌, ◌≤◌, IfSome, IfNone, length};
-ghost use Rattle.ip6_packet.specs.Grammar.{payload_len, chain_of, payload_of};
+ghost use Rattle.ip6_packet.specs.Grammar.{payload_len, chain_of, payload_of6};
 ghost use Rattle.ip6_packet.specs.Embedded.{HasHeaders6, LacksHeaders6};
 
 use crate::chain::{Chain, chain_of};
@@ -43,7 +43,7 @@ impl Head6 {
     /// The payload among the octets that begin with these headers: those behind the chain, up to the
     /// declared length or, of a packet that was cut, as far as they stand.
     pub fn payload<'a>(&self, octets: &'a [u8]) -> &'a [u8]
-        ensures { result.now ≡ payload_of self.now octets.now }
+        ensures { result.now ≡ payload_of6 self.now octets.now }
     {
         let start = octets.len().min(self.start as usize);
         let end = octets.len().min(start + usize::from(self.length));

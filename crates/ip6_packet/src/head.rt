@@ -2,7 +2,7 @@ ghost use Rattle.std.specs.Prelude.{◌≡◌, ◌^◌, ◌<◌, ◌≤◌, ◌+
 ghost use Rattle.ip6_packet.specs.Written.{written6, fixed_header, fragment_header, fragment_part, IsUpper, IsPlaced, IsInRange, FitsFrag, IsPacket6};
 ghost use Rattle.ip6_packet.specs.Fragment.{fragment_offset, more_fragments};
 ghost use Rattle.ip6_packet.specs.Grammar.{Is6};
-ghost use Rattle.ip6_packet.specs.Causes.{HasNoCause6, IsSound6};
+ghost use Rattle.ip6_packet.specs.Causes.{HasNoHeaderCause6, IsSound6};
 
 use crate::layout::{
     DESTINATION_AT, FRAGMENT, FRAGMENT_ID_AT, FRAGMENT_LEN, FRAGMENT_OFFSET_AT, HEADER_LEN, HOP_AT,
@@ -138,7 +138,7 @@ impl Head6 {
         // A payload of the declared length makes a whole packet.
         ensures form { self.now.length ≡ length payload.now → IfOk result (λ octets. IsPacket6 self.now payload.now octets) }
         // What is written is read again as the same fields and payload.
-        ensures again { IsSound6 self.now payload.now → IfOk result (λ octets. Is6 self.now payload.now octets × HasNoCause6 octets) }
+        ensures again { IsSound6 self.now payload.now → IfOk result (λ octets. Is6 self.now payload.now octets × HasNoHeaderCause6 octets) }
     {
         let mut octets = Bytes::new(alloc);
         octets.extend(&self.header())?;

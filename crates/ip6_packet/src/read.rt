@@ -4,8 +4,8 @@ ghost use Rattle.std.specs.Prelude.{◌≡◌, ◌+◌, ◌/◌, ◌≤◌, ◌�
 ghost use Rattle.octets.specs.Field.{octet, sixteen};
 ghost use Rattle.octets.specs.declared.cause.Cause.{Cause as AnyCause};
 ghost use Rattle.ip6_packet.specs.declared.head.Head6.{Head6 as Header};
-ghost use Rattle.ip6_packet.specs.Grammar.{payload_len, chain_of, payload_of, trimmed6, HasFields6, Is6};
-ghost use Rattle.ip6_packet.specs.Causes.{IsTruncated6, IsBadHeader6, HasNoCause6, IsCause6, StaysRead6};
+ghost use Rattle.ip6_packet.specs.Grammar.{payload_len, chain_of, payload_of6, trimmed6, HasFields6, Is6};
+ghost use Rattle.ip6_packet.specs.Causes.{IsTruncated6, IsBadHeader6, HasNoHeaderCause6, IsCause6, StaysRead6};
 
 use crate::chain::{Chain, chain_of};
 use crate::fault::{is_no_destination, is_not_ip, is_truncated, is_wrong_frag, payload_len};
@@ -53,7 +53,7 @@ pub fn fields(octets: &[u8], chain: Chain) -> Head6
 
 /// The headers, or the least cause.
 fn decided(octets: &[u8]) -> Result<Head6, Cause>
-    ensures found { IfOk result (λ h. Is6 h (payload_of h octets.now) octets.now × HasNoCause6 octets.now) }
+    ensures found { IfOk result (λ h. Is6 h (payload_of6 h octets.now) octets.now × HasNoHeaderCause6 octets.now) }
     ensures refused { IfErr result (λ cause. IsCause6 cause octets.now) }
 {
     if is_not_ip(octets) {
@@ -82,9 +82,9 @@ impl Head6 {
     /// have. No other refusal comes, and octets that have none are read.
     pub fn read(octets: &[u8]) -> Result<Head6, Cause>
         // What is read is what the octets hold, and they have no cause.
-        ensures found { IfOk result (λ h. Is6 h (payload_of h octets.now) octets.now × HasNoCause6 octets.now) }
+        ensures found { IfOk result (λ h. Is6 h (payload_of6 h octets.now) octets.now × HasNoHeaderCause6 octets.now) }
         // What the octets hold is read, where they have no cause.
-        ensures only { (h : Header) (payload : List ℕ) → Is6 h payload octets.now → HasNoCause6 octets.now → result ≡ Ok h }
+        ensures only { (h : Header) (payload : List ℕ) → Is6 h payload octets.now → HasNoHeaderCause6 octets.now → result ≡ Ok h }
         // A refusal is the least cause, and the least cause is a refusal.
         ensures refused { (cause : AnyCause) → (result ≡ Err cause) ↔ IsCause6 cause octets.now }
         // Octets that are added at the end change no answer but Truncated, and NotIp of no octet.

@@ -198,8 +198,8 @@ part_found text found e =
 
 round_again : (text : List ℕ) (n : ℕ) (h : IsShortened text n) → (part_at h.left >>= λ left. part_at h.right >>= λ right. around_gap left right) ≡ some n
 round_again text n h =
-    let few : ltb 7 (length h.before + length h.after) ≡ false = le-ltb 7 (length h.before + length h.after) h.count in
-    rw (part_again h.left h.before h.left_is (omega (arith, h.count)), part_again h.right h.after h.right_is (omega (arith, h.count)), few) (ap (λ (x : ℕ). some x) (sym (h.value ∙ number_round_gap h.before h.after h.count)))
+    let few : ltb 7 (length h.first_groups + length h.last_groups) ≡ false = le-ltb 7 (length h.first_groups + length h.last_groups) h.count in
+    rw (part_again h.left h.first_groups h.left_is (omega (arith, h.count)), part_again h.right h.last_groups h.right_is (omega (arith, h.count)), few) (ap (λ (x : ℕ). some x) (sym (h.value ∙ number_round_gap h.first_groups h.last_groups h.count)))
 
 around_tells : (left right : ℕ × ℕ) (n : ℕ) → around_gap left right ≡ some n → (left.0 + right.0 ≤ 7) × (n ≡ left.1 * 2 ^ (16 * (8 - left.0)) + right.1)
 around_tells left right n e =
@@ -219,8 +219,8 @@ shortened_from text left right n a b parts l r e =
       left = left;
       right = right;
       parts = parts;
-      before = l.groups;
-      after = r.groups;
+      first_groups = l.groups;
+      last_groups = r.groups;
       left_is = l.spelled;
       right_is = r.spelled;
       count = few;
@@ -234,7 +234,7 @@ unfolding addr6_at
 addr6_again text n (inl h) =
     rw (solid_has_none text (groups_solid text h.groups h.spelled).solid) (whole_again text h.groups n h.spelled h.count h.value)
 addr6_again text n (inr h) =
-    let gap : gap_at text ≡ Some (h.left, h.right) = ap gap_at h.parts ∙ solid_then_gap h.left h.right (some_solid h.left h.before h.left_is) in
+    let gap : gap_at text ≡ Some (h.left, h.right) = ap gap_at h.parts ∙ solid_then_gap h.left h.right (some_solid h.left h.first_groups h.left_is) in
     rw gap (round_again text n h)
 
 pub addr6_found : (text : List ℕ) (n : ℕ) → addr6_at text ≡ some n → IsText6 text n
@@ -264,5 +264,5 @@ some_no_slash text gs (inr h) = groups_no_slash text gs h
 pub no_slash6 : (text : List ℕ) (n : ℕ) → IsText6 text n → Lacks slash text
 no_slash6 text n (inl h) = groups_no_slash text h.groups h.spelled
 no_slash6 text n (inr h) =
-    let right = lacks_cons slash colon (colon ∷ h.right) (omega arith) (lacks_cons slash colon h.right (omega arith) (some_no_slash h.right h.after h.right_is)) in
-    subst (λ (xs : List ℕ). Lacks slash xs) (sym h.parts) (lacks_append slash h.left (colon ∷ colon ∷ h.right) (some_no_slash h.left h.before h.left_is) right)
+    let right = lacks_cons slash colon (colon ∷ h.right) (omega arith) (lacks_cons slash colon h.right (omega arith) (some_no_slash h.right h.last_groups h.right_is)) in
+    subst (λ (xs : List ℕ). Lacks slash xs) (sym h.parts) (lacks_append slash h.left (colon ∷ colon ∷ h.right) (some_no_slash h.left h.first_groups h.left_is) right)

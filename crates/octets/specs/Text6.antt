@@ -40,12 +40,12 @@ pub record IsShortened (text : List ℕ) (n : ℕ) : Type 0 where
   pub left : List ℕ
   pub right : List ℕ
   pub parts : text ≡ left ++ colon ∷ colon ∷ right
-  pub before : List ℕ
-  pub after : List ℕ
-  pub left_is : AreSomeGroups left before
-  pub right_is : AreSomeGroups right after
-  pub count : length before + length after ≤ 7
-  pub value : n ≡ number_of_groups (before ++ replicate (8 - (length before + length after)) 0 ++ after)
+  pub first_groups : List ℕ
+  pub last_groups : List ℕ
+  pub left_is : AreSomeGroups left first_groups
+  pub right_is : AreSomeGroups right last_groups
+  pub count : length first_groups + length last_groups ≤ 7
+  pub value : n ≡ number_of_groups (first_groups ++ replicate (8 - (length first_groups + length last_groups)) 0 ++ last_groups)
 
 -- the text spells the address with this number
 abbrev pub IsText6 : List ℕ → ℕ → Type 0

@@ -8,10 +8,10 @@ use Rattle.octets.specs.declared.prefix.Prefix6.{Prefix6}
 use Rattle.octets.specs.declared.proto.Proto.{Proto}
 use Rattle.pcap_files.specs.declared.records.Record.{Record}
 use Rattle.ip4_packet.specs.declared.head.Head4.{Head4}
-use Rattle.ip4_packet.specs.Grammar.{HasFields4, payload_of}
+use Rattle.ip4_packet.specs.Grammar.{HasFields4, payload_of4}
 use Rattle.ip6_packet.specs.declared.head.Head6.{Head6}
 use Rattle.ip6_packet.specs.Embedded.{HasHeaders6}
-use Rattle.ip6_packet.specs.Grammar.{payload_of as payload_of6}
+use Rattle.ip6_packet.specs.Grammar.{payload_of6}
 use Rattle.ip6_packet.proofs.EmbeddedLemmas.{same_headers6, headers_of6}
 use Rattle.l4_headers.specs.Transport.{l4_of}
 use Rattle.port_set.proofs.Ranks.{rank-one, rank-below}
@@ -56,7 +56,7 @@ same_taken e t u octets is other =
     let routed : t.head.routed ≡ u.head.routed = is.sound.carried.unrouted ∙ sym other.sound.carried.unrouted in
     let head = same_head t.head u.head octets is.sound.is.fields other.sound.is.fields routed in
     let proto : t.proto ≡ u.proto = same_proto t.proto u.proto (sym is.sound.carried.protocol ∙ ap (λ (h : Head4). proto4 h.proto) head ∙ other.sound.carried.protocol) in
-    let read = λ (h : Head4) (proto : Proto). (l4_of proto (payload_of h octets)).ports in
+    let read = λ (h : Head4) (proto : Proto). (l4_of proto (payload_of4 h octets)).ports in
     let ports : t.ports ≡ u.ports = is.ports ∙ ap (λ (h : Head4). read h t.proto) head ∙ ap (λ (p : Proto). read u.head p) proto ∙ sym other.ports in
     let made : Taken = record { head = t.head; proto = t.proto; ports = t.ports } in
     let first : t ≡ made = refl in

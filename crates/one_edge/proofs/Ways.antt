@@ -1,7 +1,7 @@
 -- A served packet goes out and is translated back.
 use Rattle.std.proofs.Common.{◌≡◌, ℕ, ◌+◌, ◌%◌, ◌^◌, ◌<◌, ◌≤◌, List, length, not, Some, refl, sym, ap, ◌∙◌, subst, arith}
 use Rattle.ip6_packet.specs.declared.head.Head6.{Head6}
-use Rattle.ip6_packet.specs.Grammar.{payload_of as payload_of6}
+use Rattle.ip6_packet.specs.Grammar.{payload_of6}
 use Rattle.ip6_packet.specs.Written.{written6}
 use Rattle.l4_headers.specs.declared.ports.Ports.{Ports}
 use Rattle.l4_headers.specs.Transport.{l4_of, with_l4}

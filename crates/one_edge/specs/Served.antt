@@ -5,17 +5,17 @@ use Rattle.octets.specs.declared.proto.Proto.{Proto}
 use Rattle.octets.specs.declared.proto.Proto.TheVariants.{Tcp, Udp, Icmp}
 use Rattle.pcap_files.specs.declared.records.Record.{Record}
 use Rattle.ip4_packet.specs.declared.head.Head4.{Head4}
-use Rattle.ip4_packet.specs.Grammar.{payload_of}
+use Rattle.ip4_packet.specs.Grammar.{payload_of4}
 use Rattle.l4_headers.specs.Transport.{l4_of}
 use Rattle.rule_book.specs.Owner.{covers_of}
 use Rattle.xlat46.specs.Head.{is_fragment}
-use Rattle.xlat46.specs.Whole.{Parts4, HasNoCause46}
+use Rattle.xlat46.specs.Whole.{Parts4, HasNoTcpUdpCause4}
 use Rattle.one_edge.specs.declared.taken.Taken.{Taken}
 use Rattle.one_edge.specs.Edge.{Edge}
 
 -- the packet that was read, with its payload
 abbrev pub parts_of : Taken → List ℕ → Parts4
-parts_of t octets = record { head = t.head; proto = t.proto; payload = payload_of t.head octets }
+parts_of t octets = record { head = t.head; proto = t.proto; payload = payload_of4 t.head octets }
 
 -- the header is that of a whole packet that lasts for both nodes, goes to no rule's own address, and fits both networks
 pub record IsCarried (e : Edge) (head : Head4) : Type 0 where
@@ -28,9 +28,9 @@ pub record IsCarried (e : Edge) (head : Head4) : Type 0 where
 -- the octets are this packet, which has none of the causes for which one of TCP or UDP is dropped before it is translated,
 -- and is such a one
 pub record IsServed (e : Edge) (t : Taken) (octets : List ℕ) : Type 0 where
-  pub sound : HasNoCause46 (parts_of t octets) octets
+  pub sound : HasNoTcpUdpCause4 (parts_of t octets) octets
   pub carried : IsCarried e t.head
-  pub ports : t.ports ≡ (l4_of t.proto (payload_of t.head octets)).ports
+  pub ports : t.ports ≡ (l4_of t.proto (payload_of4 t.head octets)).ports
 
 -- each record is served, as these packets
 abbrev pub AreServed : Edge → List Record → List Taken → Type 0

@@ -9,7 +9,7 @@ use Rattle.std.proofs.lemmas.Bool.{cases_lt, lt-ltb, le-ltb}
 use Rattle.octets.specs.declared.parcel.Parcel.{Parcel}
 use Rattle.ip6_packet.specs.declared.head.Head6.{Head6}
 use Rattle.ip6_packet.specs.declared.head.Frag6.{Frag6}
-use Rattle.ip6_packet.specs.Grammar.{payload_of}
+use Rattle.ip6_packet.specs.Grammar.{payload_of6}
 use Rattle.ip6_packet.specs.Causes.{IsWrongFrag6}
 use Rattle.ip6_packet.specs.Written.{IsPacket6, IsUpper, IsInRange}
 use Rattle.ip6_packet.specs.Embedded.{HasHeaders6}
@@ -21,13 +21,13 @@ use Rattle.packet_faults.specs.Cut.{Cutting, piece_payload, piece_frag, piece_he
 -- what is read of a packet that may be cut is what was written
 pub record Found (h g : Head6) (payload packet : List ℕ) : Type 0 where
   pub head : h ≡ g
-  pub payload_is : payload ≡ payload_of g packet
+  pub payload_is : payload ≡ payload_of6 g packet
 
 pub found : (h g : Head6) (payload packet : List ℕ) → IsCuttable h payload packet → HasHeaders6 g packet → Found h g payload packet
 found h g payload packet may has =
     let is = written_is6 h payload packet may.form in
     let e : h ≡ g = same_headers6 h g packet (headers_of6 h payload packet is) has in
-    record { head = e; payload_is = is.payload_is ∙ ap (λ (x : Head6). payload_of x packet) e }
+    record { head = e; payload_is = is.payload_is ∙ ap (λ (x : Head6). payload_of6 x packet) e }
 
 -- the whole payload that it is a part of has room for it
 pub room : (frag : Option Frag6) (len : ℕ) → (IsWrongFrag6 frag len → ⊥) → len < 65536 → fragment_offset frag * 8 + len ≤ 65535

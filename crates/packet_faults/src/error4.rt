@@ -3,7 +3,7 @@
 ghost use Rattle.std.specs.Prelude.{◌≡◌, ◌≤◌, ◌↔◌, IsTrue, List, ℕ, length, None, IfOk, IfSome};
 ghost use Rattle.ip4_packet.specs.declared.head.Head4.{Head4 as Header};
 ghost use Rattle.ip4_packet.specs.Grammar.{Is4};
-ghost use Rattle.ip4_packet.specs.Causes.{HasNoCause4};
+ghost use Rattle.ip4_packet.specs.Causes.{HasNoHeaderCause4};
 ghost use Rattle.packet_faults.specs.Error.{IsError4, IsUnanswered4, notice, embedded4, error_head4, error_message4, error4};
 
 use icmp_messages::Icmp4;
@@ -68,12 +68,12 @@ pub fn fault4(
     src: Addr4,
     id: u16,
 ) -> Result<Option<Bytes>, NoMemory>
-    requires { HasNoCause4 packet.now }
+    requires { HasNoHeaderCause4 packet.now }
     ensures none { (h : Header) (payload : List ℕ) → Is4 h payload packet.now → IfOk result (λ error. (error ≡ None) ↔ IsUnanswered4 h payload) }
     ensures error { (h : Header) (payload : List ℕ) → Is4 h payload packet.now → IfOk result (λ error. IfSome error (λ octets. octets ≡ error4 h packet.now (notice kind code rest) src id)) }
     ensures bounded { IfOk result (λ error. IfSome error (λ octets. length octets ≤ 576)) }
     // The error is a packet that the header reader accepts.
-    ensures accepted { IfOk result (λ error. IfSome error (λ octets. HasNoCause4 octets)) }
+    ensures accepted { IfOk result (λ error. IfSome error (λ octets. HasNoHeaderCause4 octets)) }
 {
     let Ok(head) = Head4::read(packet) else {
         unreachable!();

@@ -3,7 +3,7 @@
 ghost use Rattle.std.specs.Prelude.{◌≡◌, ◌≤◌, ◌↔◌, IsTrue, List, ℕ, length, None, IfOk, IfSome};
 ghost use Rattle.ip6_packet.specs.declared.head.Head6.{Head6 as Header};
 ghost use Rattle.ip6_packet.specs.Grammar.{Is6};
-ghost use Rattle.ip6_packet.specs.Causes.{HasNoCause6};
+ghost use Rattle.ip6_packet.specs.Causes.{HasNoHeaderCause6};
 ghost use Rattle.packet_faults.specs.Error.{IsError6, IsUnanswered6, notice, embedded6, error_head6, error_message6, error6};
 
 use icmp_messages::Icmp6;
@@ -60,12 +60,12 @@ pub fn fault6(
     rest: u32,
     src: Addr6,
 ) -> Result<Option<Bytes>, NoMemory>
-    requires { HasNoCause6 packet.now }
+    requires { HasNoHeaderCause6 packet.now }
     ensures none { (h : Header) (payload : List ℕ) → Is6 h payload packet.now → IfOk result (λ error. (error ≡ None) ↔ IsUnanswered6 h payload) }
     ensures error { (h : Header) (payload : List ℕ) → Is6 h payload packet.now → IfOk result (λ error. IfSome error (λ octets. octets ≡ error6 h packet.now (notice kind code rest) src)) }
     ensures bounded { IfOk result (λ error. IfSome error (λ octets. length octets ≤ 1280)) }
     // The error is a packet that the header reader accepts.
-    ensures accepted { IfOk result (λ error. IfSome error (λ octets. HasNoCause6 octets)) }
+    ensures accepted { IfOk result (λ error. IfSome error (λ octets. HasNoHeaderCause6 octets)) }
 {
     let Ok(head) = Head6::read(packet) else {
         unreachable!();

@@ -21,7 +21,7 @@ use Rattle.icmp_xlat.specs.declared.table.Rest.TheVariants.{Query as QueryRest, 
 use Rattle.icmp_xlat.specs.Table.{table46, row_of}
 use Rattle.icmp_messages.specs.Inner.{IsCarried4, IsBadBehind4}
 use Rattle.ip4_packet.specs.Embedded.{HasHeader4, LacksHeader4}
-use Rattle.ip4_packet.specs.Grammar.{payload_of}
+use Rattle.ip4_packet.specs.Grammar.{payload_of4}
 use Rattle.l4_headers.specs.Transport.{IsBadTransport}
 use Rattle.packets.specs.declared.packet4.Content4.{Content4}
 use Rattle.packets.specs.declared.packet4.Content4.TheVariants.{Segment, Later, Query, Error}
@@ -45,7 +45,7 @@ not_bad4 : (inner : Inner4) (octets : List ℕ) → IsInner4 inner octets → Is
 not_bad4 inner octets is (inl lacks) = not_lacking inner.head octets is.header lacks
 not_bad4 inner octets is (inr (g, other, bad)) =
     let same : g ≡ inner.head = same_header g inner.head octets other is.header in
-    fine4 inner.head inner.proto (payload_of inner.head octets) (rw is.payload at is.stands) is.first (rw is.payload at is.carried) (rw same at bad)
+    fine4 inner.head inner.proto (payload_of4 inner.head octets) (rw is.payload at is.stands) is.first (rw is.payload at is.carried) (rw same at bad)
 
 -- two embedded packets in the same octets have one source
 one_source : (one other : Inner4) (octets : List ℕ) → IsInner4 one octets → IsInner4 other octets → one.head.src ≡ other.head.src

@@ -21,7 +21,7 @@ use Rattle.icmp_xlat.specs.declared.table.Rest.TheVariants.{Query as QueryRest, 
 use Rattle.icmp_xlat.specs.Table.{table64, row_of}
 use Rattle.icmp_messages.specs.Inner.{IsCarried6, IsBadBehind6}
 use Rattle.ip6_packet.specs.Embedded.{HasHeaders6, LacksHeaders6}
-use Rattle.ip6_packet.specs.Grammar.{payload_of}
+use Rattle.ip6_packet.specs.Grammar.{payload_of6}
 use Rattle.l4_headers.specs.Transport.{IsBadTransport}
 use Rattle.octets.specs.declared.address.Addr6.{Addr6}
 use Rattle.ip6_packet.specs.Fragment.{fragment_offset, more_fragments}
@@ -81,7 +81,7 @@ answered_too at_relay h inner other same answers = record {
 
 -- an embedded packet that is read, and was sent from where the error goes, isn't bad
 fine_embedded : (at_relay : Bool) (h : Head6) (m : Icmp6) (inner : Inner6) → IsInner6 inner (embedded64 m) → IsAnswered6 at_relay h inner → IsBadEmbedded6 at_relay h m → ⊥
-fine_embedded at_relay h m inner is answers (inl bad) = let stands : 8 ≤ length (payload_of inner.head (embedded64 m)) = omega (arith, ap length is.payload, is.stands) in not_bad6 inner.head inner.proto (embedded64 m) is.headers stands is.first (rw is.payload at is.carried) bad
+fine_embedded at_relay h m inner is answers (inl bad) = let stands : 8 ≤ length (payload_of6 inner.head (embedded64 m)) = omega (arith, ap length is.payload, is.stands) in not_bad6 inner.head inner.proto (embedded64 m) is.headers stands is.first (rw is.payload at is.carried) bad
 fine_embedded at_relay h m inner is answers (inr (other, has, differs)) = differs (answered_too at_relay h inner other (one_inner_head inner other (embedded64 m) is has) answers)
 
 one_proto : (n : ℕ) (p q : Proto) → proto6 n ≡ Some p → proto6 n ≡ Some q → q ≡ p

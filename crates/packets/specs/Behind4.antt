@@ -8,8 +8,8 @@ use Rattle.octets.specs.declared.cause.Cause.{Cause}
 use Rattle.octets.specs.declared.cause.Cause.TheVariants.{SourceRoute, UnsupportedProtocol, IcmpFragment, BadTransport, IcmpSum, IcmpKind, BadInner, NoUdpSum}
 use Rattle.octets.specs.declared.proto.Proto.{Proto}
 use Rattle.ip4_packet.specs.declared.head.Head4.{Head4}
-use Rattle.ip4_packet.specs.Grammar.{payload_of, Is4}
-use Rattle.ip4_packet.specs.Causes.{HasNoCause4, IsCause4}
+use Rattle.ip4_packet.specs.Grammar.{payload_of4, Is4}
+use Rattle.ip4_packet.specs.Causes.{HasNoHeaderCause4, IsCause4}
 use Rattle.l4_headers.specs.Transport.{IsBadTransport}
 use Rattle.icmp_messages.specs.declared.icmp4.Icmp4.{Icmp4}
 use Rattle.icmp_messages.specs.declared.inner4.Inner4.{Inner4}
@@ -50,7 +50,7 @@ Behind4 h payload _ = ⊥
 -- the cause of an IPv4 packet is the least: of its header, and else of what is behind it
 abbrev pub IsFoundBehind4 : Cause → List ℕ → Type 0
 IsFoundBehind4 cause octets =
-    (h : Head4) × Is4 h (payload_of h octets) octets × HasNoCause4 octets × IsLeast (Behind4 h (payload_of h octets)) cause
+    (h : Head4) × Is4 h (payload_of4 h octets) octets × HasNoHeaderCause4 octets × IsLeast (Behind4 h (payload_of4 h octets)) cause
 
 abbrev pub IsDropped4 : Cause → List ℕ → Type 0
 IsDropped4 cause octets = IsCause4 cause octets ⊎ IsFoundBehind4 cause octets

@@ -9,8 +9,8 @@ use Rattle.octets.specs.declared.cause.Cause.TheVariants.{SourceRoute, Unsupport
 use Rattle.octets.specs.declared.proto.Proto.{Proto}
 use Rattle.ip6_packet.specs.declared.head.Head6.{Head6}
 use Rattle.ip6_packet.specs.Fragment.{fragment_offset, more_fragments}
-use Rattle.ip6_packet.specs.Grammar.{payload_of, Is6}
-use Rattle.ip6_packet.specs.Causes.{HasNoCause6, IsCause6}
+use Rattle.ip6_packet.specs.Grammar.{payload_of6, Is6}
+use Rattle.ip6_packet.specs.Causes.{HasNoHeaderCause6, IsCause6}
 use Rattle.l4_headers.specs.Transport.{IsBadTransport}
 use Rattle.icmp_messages.specs.declared.icmp6.Icmp6.{Icmp6}
 use Rattle.icmp_messages.specs.declared.inner6.Inner6.{Inner6}
@@ -61,9 +61,9 @@ Behind6 at_relay h payload _ = ⊥
 abbrev pub IsFoundBehind6 : Bool → Cause → List ℕ → Type 0
 IsFoundBehind6 at_relay cause octets =
     (h : Head6)
-    × Is6 h (payload_of h octets) octets
-    × HasNoCause6 octets
-    × IsLeast (Behind6 at_relay h (payload_of h octets)) cause
+    × Is6 h (payload_of6 h octets) octets
+    × HasNoHeaderCause6 octets
+    × IsLeast (Behind6 at_relay h (payload_of6 h octets)) cause
 
 abbrev pub IsDropped6 : Bool → Cause → List ℕ → Type 0
 IsDropped6 at_relay cause octets = IsCause6 cause octets ⊎ IsFoundBehind6 at_relay cause octets

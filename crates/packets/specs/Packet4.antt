@@ -5,8 +5,8 @@ use Rattle.octets.specs.Protocol.{proto4}
 use Rattle.octets.specs.declared.proto.Proto.{Proto}
 use Rattle.octets.specs.declared.proto.Proto.TheVariants.{Udp, Icmp}
 use Rattle.ip4_packet.specs.declared.head.Head4.{Head4}
-use Rattle.ip4_packet.specs.Grammar.{payload_of, Is4}
-use Rattle.ip4_packet.specs.Causes.{HasNoCause4}
+use Rattle.ip4_packet.specs.Grammar.{payload_of4, Is4}
+use Rattle.ip4_packet.specs.Causes.{HasNoHeaderCause4}
 use Rattle.l4_headers.specs.declared.ports.L4.{L4}
 use Rattle.l4_headers.specs.Transport.{IsBadTransport, l4_of}
 use Rattle.icmp_messages.specs.declared.icmp4.Icmp4.{Icmp4}
@@ -61,7 +61,7 @@ IsContent4 h payload (Error message row inner) = IsErrorOf4 h payload message ro
 
 -- the octets are this packet
 pub record IsPacket4 (p : Packet4) (octets : List ℕ) : Type 0 where
-  pub is : Is4 p.head (payload_of p.head octets) octets
-  pub header : HasNoCause4 octets
+  pub is : Is4 p.head (payload_of4 p.head octets) octets
+  pub header : HasNoHeaderCause4 octets
   pub unrouted : p.head.routed ≡ false
-  pub content : IsContent4 p.head (payload_of p.head octets) p.content
+  pub content : IsContent4 p.head (payload_of4 p.head octets) p.content

@@ -6,8 +6,8 @@ use Rattle.octets.specs.declared.proto.Proto.{Proto}
 use Rattle.octets.specs.declared.proto.Proto.TheVariants.{Udp, Icmp}
 use Rattle.ip6_packet.specs.declared.head.Head6.{Head6}
 use Rattle.ip6_packet.specs.Fragment.{fragment_offset, more_fragments}
-use Rattle.ip6_packet.specs.Grammar.{payload_of, Is6}
-use Rattle.ip6_packet.specs.Causes.{HasNoCause6}
+use Rattle.ip6_packet.specs.Grammar.{payload_of6, Is6}
+use Rattle.ip6_packet.specs.Causes.{HasNoHeaderCause6}
 use Rattle.l4_headers.specs.declared.ports.L4.{L4}
 use Rattle.l4_headers.specs.Transport.{IsBadTransport, l4_of}
 use Rattle.icmp_messages.specs.declared.icmp6.Icmp6.{Icmp6}
@@ -61,7 +61,7 @@ IsContent6 at_relay h payload (Error message row inner) = IsErrorOf6 at_relay h 
 
 -- the octets are this packet
 pub record IsPacket6 (at_relay : Bool) (p : Packet6) (octets : List ℕ) : Type 0 where
-  pub is : Is6 p.head (payload_of p.head octets) octets
-  pub header : HasNoCause6 octets
+  pub is : Is6 p.head (payload_of6 p.head octets) octets
+  pub header : HasNoHeaderCause6 octets
   pub unrouted : p.head.left ≡ None
-  pub content : IsContent6 at_relay p.head (payload_of p.head octets) p.content
+  pub content : IsContent6 at_relay p.head (payload_of6 p.head octets) p.content

@@ -6,11 +6,11 @@ use Rattle.octets.specs.declared.cause.Cause.TheVariants.{NotIp, Truncated, BadH
 use Rattle.octets.specs.declared.cause.Fault.{Fault}
 use Rattle.octets.specs.declared.cause.Fault.TheVariants.{Drop, NoMemory}
 use Rattle.ip4_packet.specs.declared.head.Head4.{Head4}
-use Rattle.ip4_packet.specs.Causes.{HasCause4, HasNoCause4}
-use Rattle.ip4_packet.specs.Grammar.{payload_of as payload_of4, Is4}
+use Rattle.ip4_packet.specs.Causes.{HasCause4, HasNoHeaderCause4}
+use Rattle.ip4_packet.specs.Grammar.{payload_of4, Is4}
 use Rattle.ip6_packet.specs.declared.head.Head6.{Head6}
-use Rattle.ip6_packet.specs.Causes.{HasCause6, HasNoCause6}
-use Rattle.ip6_packet.specs.Grammar.{payload_of as payload_of6, Is6}
+use Rattle.ip6_packet.specs.Causes.{HasCause6, HasNoHeaderCause6}
+use Rattle.ip6_packet.specs.Grammar.{payload_of6, Is6}
 use Rattle.packets.proofs.Faults.{is_fault}
 use Rattle.packets.specs.Behind4.{IsDropped4}
 use Rattle.packets.specs.Behind6.{IsDropped6}
@@ -81,13 +81,13 @@ silent6 TooBig octets has = absurd has
 
 -- a packet whose header can't be read has no answer
 pub unread4 : (read : Result Head4 Cause) (other cause : Cause) (octets : List ℕ) → read ≡ Err other
-    → ((h : Head4) (payload : List ℕ) → Is4 h payload octets → HasNoCause4 octets → read ≡ Ok h)
+    → ((h : Head4) (payload : List ℕ) → Is4 h payload octets → HasNoHeaderCause4 octets → read ≡ Ok h)
     → IsDropped4 cause octets → has_notice cause ≡ false
 unread4 read other cause octets e only (inl header) = silent4 cause octets header.0
 unread4 read other cause octets e only (inr (h, is, none, least)) = absurd (let f : read ≡ Ok h = only h (payload_of4 h octets) is none in cc)
 
 pub unread6 : (read : Result Head6 Cause) (other cause : Cause) (octets : List ℕ) → read ≡ Err other
-    → ((h : Head6) (payload : List ℕ) → Is6 h payload octets → HasNoCause6 octets → read ≡ Ok h)
+    → ((h : Head6) (payload : List ℕ) → Is6 h payload octets → HasNoHeaderCause6 octets → read ≡ Ok h)
     → IsDropped6 Rattle.std.proofs.Common.true cause octets → has_notice cause ≡ false
 unread6 read other cause octets e only (inl header) = silent6 cause octets header.0
 unread6 read other cause octets e only (inr (h, is, none, least)) = absurd (let f : read ≡ Ok h = only h (payload_of6 h octets) is none in cc)

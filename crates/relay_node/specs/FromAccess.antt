@@ -5,7 +5,7 @@ use Rattle.octets.specs.declared.cause.Cause.{Cause}
 use Rattle.octets.specs.declared.cause.Cause.TheVariants.{Spoofed, NotDefault}
 use Rattle.octets.specs.declared.parcel.Parcel.{Parcel}
 use Rattle.ip6_packet.specs.declared.head.Head6.{Head6}
-use Rattle.ip6_packet.specs.Grammar.{payload_of, Is6}
+use Rattle.ip6_packet.specs.Grammar.{payload_of6, Is6}
 use Rattle.l4_headers.specs.declared.ports.Ports.{Ports}
 use Rattle.icmp_xlat.specs.declared.ends.Ends.{Ends}
 use Rattle.packet_faults.specs.declared.hop.Hop.{Hop}
@@ -31,7 +31,7 @@ IsRefused6 relay h octets cause hop =
 abbrev pub IsFaulty6 : Relay → List ℕ → Cause → Hop → Type 0
 IsFaulty6 relay octets cause hop =
     ((has_notice cause ≡ false) × (hop ≡ lost cause))
-    ⊎ ((h : Head6) × Is6 h (payload_of h octets) octets × IsRefused6 relay h octets cause hop)
+    ⊎ ((h : Head6) × Is6 h (payload_of6 h octets) octets × IsRefused6 relay h octets cause hop)
 
 -- the ends over IPv4; the packet that an error embeds went the other way
 abbrev pub ends64 : Addr4 → Addr4 → Ports → Ends Addr4
@@ -41,7 +41,7 @@ ends64 src dst ports = record { src = src; dst = dst; inner_src = dst; inner_dst
 abbrev pub IsPassed6 : Relay → Packet6 → List ℕ → Ends Addr4 → Hop → Type 0
 IsPassed6 relay p octets ends hop =
     (passage : Passage)
-    × IsPassage64 (record { mtus = relay.params.mtus; ends = ends; id = relay.id }) p (payload_of p.head octets) passage
+    × IsPassage64 (record { mtus = relay.params.mtus; ends = ends; id = relay.id }) p (payload_of6 p.head octets) passage
     × IsCarried (IsRefused6 relay p.head octets) (exit_of relay.rules ends.dst) passage hop
 
 -- First its source has to be a rule's address for its port, and then its destination has to embed one.

@@ -6,7 +6,7 @@ use Rattle.octets.specs.declared.cause.Cause.{Cause}
 use Rattle.octets.specs.declared.cause.Cause.TheVariants.{NoOwner}
 use Rattle.octets.specs.declared.parcel.Parcel.{Parcel}
 use Rattle.ip4_packet.specs.declared.head.Head4.{Head4}
-use Rattle.ip4_packet.specs.Grammar.{payload_of, Is4}
+use Rattle.ip4_packet.specs.Grammar.{payload_of4, Is4}
 use Rattle.l4_headers.specs.declared.ports.Ports.{Ports}
 use Rattle.icmp_xlat.specs.declared.ends.Ends.{Ends}
 use Rattle.packet_faults.specs.declared.hop.Hop.{Hop}
@@ -35,7 +35,7 @@ IsRefused4 relay h octets cause hop =
 abbrev pub IsFaulty4 : Relay → List ℕ → Cause → Hop → Type 0
 IsFaulty4 relay octets cause hop =
     ((has_notice cause ≡ false) × (hop ≡ lost cause))
-    ⊎ ((h : Head4) × Is4 h (payload_of h octets) octets × IsRefused4 relay h octets cause hop)
+    ⊎ ((h : Head4) × Is4 h (payload_of4 h octets) octets × IsRefused4 relay h octets cause hop)
 
 -- the far end of the flow: the packet's source, and of an error the destination of the packet that it embeds
 abbrev pub far_end : Addr4 → Content4 → Addr4
@@ -58,7 +58,7 @@ ends46 relay p own ports = record {
 abbrev pub IsPassed4 : Relay → Packet4 → List ℕ → Ends Addr6 → Hop → Type 0
 IsPassed4 relay p octets ends hop =
     (passage : Passage)
-    × IsPassage46 relay.params.mtus p (payload_of p.head octets) ends passage
+    × IsPassage46 relay.params.mtus p (payload_of4 p.head octets) ends passage
     × IsCarried (IsRefused4 relay p.head octets) ToAccess passage hop
 
 -- a rule has to give its destination

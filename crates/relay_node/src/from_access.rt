@@ -1,8 +1,8 @@
 //! Packets from the access network.
 ghost use Rattle.std.specs.Prelude.{◌≡◌, OnOk, Some, true};
 ghost use Rattle.std.specs.Option.{option_map};
-ghost use Rattle.ip6_packet.specs.Grammar.{payload_of, Is6};
-ghost use Rattle.ip6_packet.specs.Causes.{HasNoCause6};
+ghost use Rattle.ip6_packet.specs.Grammar.{payload_of6, Is6};
+ghost use Rattle.ip6_packet.specs.Causes.{HasNoHeaderCause6};
 ghost use Rattle.packets.specs.Asked.{flow_of6};
 ghost use Rattle.packets.specs.Behind6.{IsDropped6};
 ghost use Rattle.packets.specs.Packet6.{IsPacket6};
@@ -37,8 +37,8 @@ fn refuse6<V: RuleView>(
     cause: Cause,
     hop: &mut Hop,
 ) -> Result<(), NoMemory>
-    requires is { Is6 head.now (payload_of head.now packet.now) packet.now }
-    requires fine { HasNoCause6 packet.now }
+    requires is { Is6 head.now (payload_of6 head.now packet.now) packet.now }
+    requires fine { HasNoHeaderCause6 packet.now }
     ensures { OnOk result (Gains (IsRefused6 (relay_at (V.rules view.now) (V.default_rule view.now) params.now id) head.now packet.now cause) hop.old hop.new) }
 {
     let src = embedded(&view.dmr(), params.relay4);
@@ -101,8 +101,8 @@ fn carry6<V: RuleView>(
     passage: Passage,
     hop: &mut Hop,
 ) -> Result<(), NoMemory>
-    requires is { Is6 head.now (payload_of head.now packet.now) packet.now }
-    requires fine { HasNoCause6 packet.now }
+    requires is { Is6 head.now (payload_of6 head.now packet.now) packet.now }
+    requires fine { HasNoHeaderCause6 packet.now }
     ensures { OnOk result (Gains (IsCarried (IsRefused6 (relay_at (V.rules view.now) (V.default_rule view.now) params.now id) head.now packet.now) exit passage) hop.old hop.new) }
 {
     match passage {

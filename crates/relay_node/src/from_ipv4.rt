@@ -1,8 +1,8 @@
 //! Packets from IPv4: from the core, or turned by the relay itself.
 ghost use Rattle.std.specs.Prelude.{◌≡◌, OnOk, Some};
 ghost use Rattle.std.specs.Option.{option_map};
-ghost use Rattle.ip4_packet.specs.Grammar.{payload_of, Is4};
-ghost use Rattle.ip4_packet.specs.Causes.{HasNoCause4};
+ghost use Rattle.ip4_packet.specs.Grammar.{payload_of4, Is4};
+ghost use Rattle.ip4_packet.specs.Causes.{HasNoHeaderCause4};
 ghost use Rattle.packets.specs.Asked.{flow_of4};
 ghost use Rattle.packets.specs.Behind4.{IsDropped4};
 ghost use Rattle.packets.specs.Packet4.{IsPacket4};
@@ -38,8 +38,8 @@ fn refuse4<V: RuleView>(
     cause: Cause,
     hop: &mut Hop,
 ) -> Result<(), NoMemory>
-    requires is { Is4 head.now (payload_of head.now packet.now) packet.now }
-    requires fine { HasNoCause4 packet.now }
+    requires is { Is4 head.now (payload_of4 head.now packet.now) packet.now }
+    requires fine { HasNoHeaderCause4 packet.now }
     ensures { OnOk result (Gains (IsRefused4 (relay_at (V.rules view.now) (V.default_rule view.now) params.now id) head.now packet.now cause) hop.old hop.new) }
 {
     let reply = reply4(alloc, params.mtus, cause, packet, params.relay4, id)?;
@@ -76,8 +76,8 @@ fn carry4<V: RuleView>(
     passage: Passage,
     hop: &mut Hop,
 ) -> Result<(), NoMemory>
-    requires is { Is4 head.now (payload_of head.now packet.now) packet.now }
-    requires fine { HasNoCause4 packet.now }
+    requires is { Is4 head.now (payload_of4 head.now packet.now) packet.now }
+    requires fine { HasNoHeaderCause4 packet.now }
     ensures { OnOk result (Gains (IsCarried (IsRefused4 (relay_at (V.rules view.now) (V.default_rule view.now) params.now id) head.now packet.now) LeavesToAccess passage) hop.old hop.new) }
 {
     match passage {

@@ -8,7 +8,7 @@ use Rattle.octets.specs.declared.proto.Proto.{Proto}
 use Rattle.ip4_packet.specs.declared.head.Head4.{Head4}
 use Rattle.ip4_packet.specs.Written.{header4, written4}
 use Rattle.ip6_packet.specs.declared.head.Head6.{Head6}
-use Rattle.ip6_packet.specs.Grammar.{payload_of, Is6}
+use Rattle.ip6_packet.specs.Grammar.{payload_of6, Is6}
 use Rattle.std.proofs.lemmas.Grind.{common_steps}
 use Rattle.ip6_packet.specs.Fragment.{more_fragments}
 use Rattle.l4_headers.specs.declared.ports.Ports.{Ports}
@@ -48,5 +48,5 @@ pub not_so : (b : Bool) → b ≡ false → IsTrue b → ⊥
 not_so b is so = cc
 
 -- the payload has the octets that are declared
-pub length_is : (h : Head6) (octets : List ℕ) → Is6 h (payload_of h octets) octets → h.length ≡ length (payload_of h octets)
+pub length_is : (h : Head6) (octets : List ℕ) → Is6 h (payload_of6 h octets) octets → h.length ≡ length (payload_of6 h octets)
 length_is h octets is = grind (arith, common_steps, is.whole, is.ends)

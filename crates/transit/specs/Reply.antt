@@ -7,9 +7,9 @@ use Rattle.octets.specs.declared.cause.Cause.{Cause}
 use Rattle.octets.specs.declared.cause.Cause.TheVariants.{SourceRoute, TtlSpent, TooBig}
 use Rattle.octets.specs.declared.mtus.Mtus.{Mtus}
 use Rattle.ip4_packet.specs.declared.head.Head4.{Head4}
-use Rattle.ip4_packet.specs.Grammar.{payload_of as payload_of4}
+use Rattle.ip4_packet.specs.Grammar.{payload_of4}
 use Rattle.ip6_packet.specs.declared.head.Head6.{Head6}
-use Rattle.ip6_packet.specs.Grammar.{payload_of as payload_of6}
+use Rattle.ip6_packet.specs.Grammar.{payload_of6}
 use Rattle.packet_faults.specs.Error.{Notice, notice, IsUnanswered4, IsUnanswered6, error4, error6}
 
 -- the causes that have one

@@ -1,11 +1,11 @@
 //! The ICMP errors that answer dropped packets.
 ghost use Rattle.std.specs.Prelude.{◌≡◌, ℕ, IfOk, IsTrue, None, false, option_map};
 ghost use Rattle.ip4_packet.specs.declared.head.Head4.{Head4 as Header4};
-ghost use Rattle.ip4_packet.specs.Grammar.{payload_of as payload_of4, Is4};
-ghost use Rattle.ip4_packet.specs.Causes.{HasNoCause4};
+ghost use Rattle.ip4_packet.specs.Grammar.{payload_of4, Is4};
+ghost use Rattle.ip4_packet.specs.Causes.{HasNoHeaderCause4};
 ghost use Rattle.ip6_packet.specs.declared.head.Head6.{Head6 as Header6};
-ghost use Rattle.ip6_packet.specs.Grammar.{payload_of as payload_of6, Is6};
-ghost use Rattle.ip6_packet.specs.Causes.{HasNoCause6};
+ghost use Rattle.ip6_packet.specs.Grammar.{payload_of6, Is6};
+ghost use Rattle.ip6_packet.specs.Causes.{HasNoHeaderCause6};
 ghost use Rattle.packet_faults.specs.Error.{notice};
 ghost use Rattle.transit.specs.Reply.{has_notice, notice4, notice6, IsAnswer4, IsAnswer6};
 
@@ -63,7 +63,7 @@ pub fn reply4(
     src: Addr4,
     id: u16,
 ) -> Result<Option<Bytes>, NoMemory>
-    requires { IsTrue (has_notice cause) → HasNoCause4 packet.now }
+    requires { IsTrue (has_notice cause) → HasNoHeaderCause4 packet.now }
     ensures answer { (h : Header4) → Is4 h (payload_of4 h packet.now) packet.now → IfOk result (IsAnswer4 h packet.now src id (notice4 mtus cause)) }
     ensures none { has_notice cause ≡ false → IfOk result (λ reply. reply ≡ None) }
 {
@@ -75,7 +75,7 @@ pub fn reply4(
 
 /// Where the segments left stand that aren't 0, if the packet's headers can be read.
 fn left_in(packet: &[u8]) -> Option<u32>
-    ensures { (h : Header6) → Is6 h (payload_of6 h packet.now) packet.now → HasNoCause6 packet.now → result ≡ h.left }
+    ensures { (h : Header6) → Is6 h (payload_of6 h packet.now) packet.now → HasNoHeaderCause6 packet.now → result ≡ h.left }
 {
     match Head6::read(packet) {
         Ok(head) => head.left,
@@ -92,7 +92,7 @@ pub fn reply6(
     packet: &[u8],
     src: Addr6,
 ) -> Result<Option<Bytes>, NoMemory>
-    requires { IsTrue (has_notice cause) → HasNoCause6 packet.now }
+    requires { IsTrue (has_notice cause) → HasNoHeaderCause6 packet.now }
     ensures answer { (h : Header6) → Is6 h (payload_of6 h packet.now) packet.now → IfOk result (IsAnswer6 h packet.now src (notice6 mtus h.left cause)) }
     ensures none { has_notice cause ≡ false → IfOk result (λ reply. reply ≡ None) }
 {

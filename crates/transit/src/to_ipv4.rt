@@ -1,7 +1,7 @@
 //! IPv6 packets to IPv4 (after RFC 7915, section 5).
 ghost use Rattle.std.specs.Prelude.{◌≡◌, ◌≢◌, ◌<◌, ◌≤◌, ◌↔◌, length, Bool, IsTrue, Some, IfOk};
 ghost use Rattle.ip6_packet.specs.Fragment.{fragment_offset};
-ghost use Rattle.ip6_packet.specs.Grammar.{payload_of};
+ghost use Rattle.ip6_packet.specs.Grammar.{payload_of6};
 ghost use Rattle.icmp_messages.specs.declared.inner6.Inner6.{Inner6 as Inner};
 ghost use Rattle.icmp_messages.specs.Inner.{IsInner6};
 ghost use Rattle.icmp_xlat.specs.declared.table.Row.{Row as AnyRow};
@@ -60,7 +60,7 @@ fn message(
 /// The packet's payload.
 fn payload_in<'a>(packet: &Packet6, octets: &'a [u8]) -> &'a [u8]
     requires { (at_relay : Bool) × IsPacket6 at_relay packet.now octets.now }
-    ensures value { result.now ≡ payload_of packet.now.head octets.now }
+    ensures value { result.now ≡ payload_of6 packet.now.head octets.now }
     ensures length_is { packet.now.head.length ≡ length result.now }
     ensures offset { fragment_offset packet.now.head.frag < 8192 }
 {
@@ -79,7 +79,7 @@ fn translated(
     requires is { (at_relay : Bool) × IsPacket6 at_relay packet.now octets.now }
     requires alive { 1 ≤ packet.now.head.hop }
     requires room { HasRoom packet.now.head packet.now.content }
-    ensures { IfOk result (λ written. translation64 mtus packet.now.head (payload_of packet.now.head octets.now) ends.now id packet.now.content ≡ Some written) }
+    ensures { IfOk result (λ written. translation64 mtus packet.now.head (payload_of6 packet.now.head octets.now) ends.now id packet.now.content ≡ Some written) }
 {
     let head = &packet.head;
     let payload = payload_in(packet, octets);
@@ -112,7 +112,7 @@ pub fn passage64(
     id: u16,
 ) -> Result<Passage, NoMemory>
     requires { (at_relay : Bool) × IsPacket6 at_relay packet.now octets.now }
-    ensures { IfOk result (λ passage. IsPassage64 (record { mtus = mtus; ends = ends.now; id = id }) packet.now (payload_of packet.now.head octets.now) passage) }
+    ensures { IfOk result (λ passage. IsPassage64 (record { mtus = mtus; ends = ends.now; id = id }) packet.now (payload_of6 packet.now.head octets.now) passage) }
 {
     if packet.head.hop <= 1 {
         return Ok(Passage::Spent);

@@ -1,6 +1,6 @@
 //! IPv4 packets to IPv6 (after RFC 7915, section 4).
 ghost use Rattle.std.specs.Prelude.{◌≡◌, ◌≢◌, ◌+◌, ◌<◌, ◌≤◌, length, Some, IfOk, false};
-ghost use Rattle.ip4_packet.specs.Grammar.{payload_of};
+ghost use Rattle.ip4_packet.specs.Grammar.{payload_of4};
 ghost use Rattle.icmp_messages.specs.declared.inner4.Inner4.{Inner4 as Inner};
 ghost use Rattle.icmp_messages.specs.Message.{IsIcmp4};
 ghost use Rattle.icmp_messages.specs.Inner.{IsInner4};
@@ -66,7 +66,7 @@ fn message(
 /// The packet's payload.
 fn payload_in<'a>(packet: &Packet4, octets: &'a [u8]) -> &'a [u8]
     requires { IsPacket4 packet.now octets.now }
-    ensures value { result.now ≡ payload_of packet.now.head octets.now }
+    ensures value { result.now ≡ payload_of4 packet.now.head octets.now }
     ensures total { packet.now.head.total ≡ packet.now.head.head_len + length result.now }
     ensures fits { length result.now ≤ 65515 }
 {
@@ -83,7 +83,7 @@ fn translated(
 ) -> Result<Bytes, NoMemory>
     requires is { IsPacket4 packet.now octets.now }
     requires alive { 1 ≤ packet.now.head.ttl }
-    ensures { IfOk result (λ written. translation46 mtus packet.now.head (payload_of packet.now.head octets.now) ends.now packet.now.content ≡ Some written) }
+    ensures { IfOk result (λ written. translation46 mtus packet.now.head (payload_of4 packet.now.head octets.now) ends.now packet.now.content ≡ Some written) }
 {
     let head = &packet.head;
     let payload = payload_in(packet, octets);
@@ -139,7 +139,7 @@ fn cut(
 ) -> Result<Parcels, NoMemory>
     requires is { IsPacket4 packet.now octets.now }
     requires alive { 1 ≤ packet.now.head.ttl }
-    requires written { translation46 mtus packet.now.head (payload_of packet.now.head octets.now) ends.now packet.now.content ≡ Some written.now }
+    requires written { translation46 mtus packet.now.head (payload_of4 packet.now.head octets.now) ends.now packet.now.content ≡ Some written.now }
     requires no_message { is_message4 packet.now.content ≡ false }
     requires longer { mtus.mtu6 < length written.now }
     ensures { IfOk result (AreCutOf written.now mtus.mtu6 packet.now.head.id) }
@@ -163,7 +163,7 @@ pub fn passage46(
     ends: &Ends<Addr6>,
 ) -> Result<Passage, NoMemory>
     requires { IsPacket4 packet.now octets.now }
-    ensures { IfOk result (λ passage. IsPassage46 mtus packet.now (payload_of packet.now.head octets.now) ends.now passage) }
+    ensures { IfOk result (λ passage. IsPassage46 mtus packet.now (payload_of4 packet.now.head octets.now) ends.now passage) }
 {
     if packet.head.ttl <= 1 {
         return Ok(Passage::Spent);

@@ -3,7 +3,7 @@
 use Rattle.std.specs.Prelude.{ℕ, ◌+◌, ◌-◌, ◌*◌, ◌%◌, ◌^◌, List, length}
 use Rattle.octets.specs.declared.address.Addr4.{Addr4}
 use Rattle.ip4_packet.specs.declared.head.Head4.{Head4}
-use Rattle.ip4_packet.specs.Grammar.{payload_of}
+use Rattle.ip4_packet.specs.Grammar.{payload_of4}
 use Rattle.ip4_packet.specs.Written.{written4}
 use Rattle.icmp_messages.specs.declared.icmp4.Icmp4.{Icmp4}
 use Rattle.icmp_messages.specs.declared.inner4.Inner4.{Inner4}
@@ -46,7 +46,7 @@ turned_payload new h payload (Error message row inner) = message4 (turned_error 
 -- the packet in these octets, in the one form that is written
 abbrev pub turned : NewEnd → Packet4 → List ℕ → List ℕ
 turned new p octets =
-    let payload = payload_of p.head octets in
+    let payload = payload_of4 p.head octets in
     written4 (turned_head new p.head (length payload)) (turned_payload new p.head payload p.content)
 
 -- as it is sent to the edge itself, and as a host of the edge receives it

@@ -2,7 +2,7 @@
 
 ghost use Rattle.std.specs.Prelude.{◌≡◌, ◌≤◌, ◌+◌, ◌++◌, IfOk, length};
 ghost use Rattle.octets.specs.declared.address.Addr4.{Addr4 as Address};
-ghost use Rattle.ip4_packet.specs.Grammar.{payload_of};
+ghost use Rattle.ip4_packet.specs.Grammar.{payload_of4};
 ghost use Rattle.icmp_messages.specs.Message.{message4};
 ghost use Rattle.packets.specs.Packet4.{IsContent4, IsPacket4};
 ghost use Rattle.turned_packets.specs.declared.ends.End.TheVariants.{Source as TheSource};

@@ -9,7 +9,7 @@ use Rattle.octets.specs.declared.proto.Proto.TheVariants.{Tcp, Udp, Icmp}
 use Rattle.inet_sum.specs.Sum.{words}
 use Rattle.ip4_packet.specs.declared.head.Head4.{Head4}
 use Rattle.ip4_packet.specs.Grammar.{Is4}
-use Rattle.ip4_packet.specs.Causes.{HasNoCause4}
+use Rattle.ip4_packet.specs.Causes.{HasNoHeaderCause4}
 use Rattle.ip6_packet.specs.Written.{written6}
 use Rattle.l4_headers.specs.declared.ports.Ports.{Ports}
 use Rattle.l4_headers.specs.Transport.{IsBadTransport, l4_of, with_l4}
@@ -35,9 +35,9 @@ pub record IsCarried4 (p : Parts4) : Type 0 where
 
 -- The octets are a packet of these parts that has none of the causes for which a TCP or UDP packet of IPv4 is
 -- dropped before it is translated.
-pub record HasNoCause46 (p : Parts4) (octets : List ℕ) : Type 0 where
+pub record HasNoTcpUdpCause4 (p : Parts4) (octets : List ℕ) : Type 0 where
   pub is : Is4 p.head p.payload octets
-  pub header : HasNoCause4 octets
+  pub header : HasNoHeaderCause4 octets
   pub carried : IsCarried4 p
 
 -- the sum of the words of both addresses, before and after
@@ -85,6 +85,6 @@ ArePorts ports = (ports.src < 65536) × (ports.dst < 65536)
 -- fragment
 pub record IsAccepted46 (octets : List ℕ) (ports : Option Ports) : Type 0 where
   pub parts : Parts4
-  pub sound : HasNoCause46 parts octets
+  pub sound : HasNoTcpUdpCause4 parts octets
   pub alive : 2 ≤ parts.head.ttl
   pub with_ports : HasPorts parts.head ports

@@ -1,7 +1,7 @@
 ghost use Rattle.std.specs.Prelude.{◌≡◌, ◌≢◌, ◌+◌, ◌<◌, ◌≤◌, not, IfOk, length};
 ghost use Rattle.octets.specs.declared.proto.Proto.TheVariants.{Icmp};
 ghost use Rattle.l4_headers.specs.Transport.{IsBadTransport, l4_of};
-ghost use Rattle.xlat46.specs.Whole.{Parts4, IsCarried4, HasNoCause46, addresses_before, addresses_after, lacks_sum, sum46, packet46, HasPorts, IsAccepted46};
+ghost use Rattle.xlat46.specs.Whole.{Parts4, IsCarried4, HasNoTcpUdpCause4, addresses_before, addresses_after, lacks_sum, sum46, packet46, HasPorts, IsAccepted46};
 
 use crate::head::{head46, is_fragment};
 use ip4_packet::Head4;
@@ -87,7 +87,7 @@ pub fn whole46(
     ports: Option<Ports>,
 ) -> Result<Bytes, NoMemory>
     requires { IsAccepted46 packet.now ports }
-    ensures { (p : Parts4) → HasNoCause46 p packet.now → IfOk result (λ octets. octets ≡ packet46 p src dst ports) }
+    ensures { (p : Parts4) → HasNoTcpUdpCause4 p packet.now → IfOk result (λ octets. octets ≡ packet46 p src dst ports) }
 {
     let Ok(head) = Head4::read(packet) else {
         unreachable!();

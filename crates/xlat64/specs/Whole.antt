@@ -10,7 +10,7 @@ use Rattle.inet_sum.specs.Sum.{words}
 use Rattle.ip4_packet.specs.Written.{written4}
 use Rattle.ip6_packet.specs.declared.head.Head6.{Head6}
 use Rattle.ip6_packet.specs.Grammar.{Is6}
-use Rattle.ip6_packet.specs.Causes.{HasNoCause6}
+use Rattle.ip6_packet.specs.Causes.{HasNoHeaderCause6}
 use Rattle.l4_headers.specs.declared.ports.Ports.{Ports}
 use Rattle.l4_headers.specs.Transport.{IsBadTransport, l4_of, with_l4}
 use Rattle.l4_headers.specs.Readdressed.{readdressed_sum}
@@ -39,9 +39,9 @@ pub record IsCarried6 (p : Parts6) : Type 0 where
 
 -- The octets are a packet of these parts that has none of the causes for which a TCP or UDP packet of IPv6 is
 -- dropped before it is translated.
-pub record HasNoCause64 (p : Parts6) (octets : List ℕ) : Type 0 where
+pub record HasNoTcpUdpCause6 (p : Parts6) (octets : List ℕ) : Type 0 where
   pub is : Is6 p.head p.payload octets
-  pub header : HasNoCause6 octets
+  pub header : HasNoHeaderCause6 octets
   pub carried : IsCarried6 p
 
 -- the sum of the words of both addresses, before and after
@@ -77,7 +77,7 @@ ArePorts ports = (ports.src < 65536) × (ports.dst < 65536)
 -- IPv4, with ports unless it is a later fragment
 pub record IsAccepted64 (octets : List ℕ) (ports : Option Ports) : Type 0 where
   pub parts : Parts6
-  pub sound : HasNoCause64 parts octets
+  pub sound : HasNoTcpUdpCause6 parts octets
   pub alive : 2 ≤ parts.head.hop
   pub fits : parts.head.length ≤ 65515
   pub with_ports : HasPorts parts.head ports

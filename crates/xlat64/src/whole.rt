@@ -1,7 +1,7 @@
 ghost use Rattle.std.specs.Prelude.{◌≡◌, ◌<◌, ◌≤◌, not, IfOk, length};
 ghost use Rattle.l4_headers.specs.Transport.{IsBadTransport};
 ghost use Rattle.ip6_packet.specs.Fragment.{more_fragments, fragment_offset};
-ghost use Rattle.xlat64.specs.Whole.{Parts6, IsCarried6, HasNoCause64, sum64, packet64, HasPorts, IsAccepted64};
+ghost use Rattle.xlat64.specs.Whole.{Parts6, IsCarried6, HasNoTcpUdpCause6, sum64, packet64, HasPorts, IsAccepted64};
 
 use crate::head::head64;
 use ip6_packet::Head6;
@@ -81,7 +81,7 @@ pub fn whole64(
     id: u16,
 ) -> Result<Bytes, NoMemory>
     requires { IsAccepted64 packet.now ports }
-    ensures { (p : Parts6) → HasNoCause64 p packet.now → IfOk result (λ octets. octets ≡ packet64 p src dst ports id) }
+    ensures { (p : Parts6) → HasNoTcpUdpCause6 p packet.now → IfOk result (λ octets. octets ≡ packet64 p src dst ports id) }
 {
     let Ok(head) = Head6::read(packet) else {
         unreachable!();

@@ -6,7 +6,7 @@ use Rattle.octets.specs.declared.cause.Cause.TheVariants.{IcmpKind}
 use Rattle.octets.specs.declared.cause.Fault.{Fault}
 use Rattle.octets.specs.declared.cause.Fault.TheVariants.{Drop, NoMemory}
 use Rattle.ip6_packet.specs.declared.head.Head6.{Head6}
-use Rattle.ip6_packet.specs.Grammar.{payload_of}
+use Rattle.ip6_packet.specs.Grammar.{payload_of6}
 use Rattle.icmp_messages.specs.declared.icmp6.Icmp6.{Icmp6}
 use Rattle.icmp_messages.specs.Message.{IsIcmp6}
 use Rattle.icmp_xlat.specs.declared.ends.Ends.{Ends}
@@ -17,7 +17,7 @@ use Rattle.icmp_xlat.proofs.to_icmp4.icmp64.Goals as goal
 pub answer64-requires-clause-embeds : goal.answer64-requires-clause-embeds
 answer64-requires-clause-embeds c =
     let given = c.requires.is in
-    let read = c.read.ensures.only c.requires.head (payload_of c.requires.head c.args.packet.now) given.is given.header in
+    let read = c.read.ensures.only c.requires.head (payload_of6 c.requires.head c.args.packet.now) given.is given.header in
     let is_head : c.requires.head ≡ c.in-Ok.head = cc in
     let there : IsIcmp6 c.in-Ok.head.src c.in-Ok.head.dst c.requires.message c.payload.result.now = rw (c.payload.ensures, ← is_head) given.message in
     let is_message : c.in_ok-message.message ≡ c.requires.message = c.in_ok-message.ensures.only c.requires.message there in
@@ -25,7 +25,7 @@ answer64-requires-clause-embeds c =
 
 pub returns : goal.returns
 returns c = λ head m given.
-    let read = c.read.ensures.only head (payload_of head c.args.packet.now) given.is given.header in
+    let read = c.read.ensures.only head (payload_of6 head c.args.packet.now) given.is given.header in
     let is_head : head ≡ c.in-Ok.head = cc in
     let there : IsIcmp6 c.in-Ok.head.src c.in-Ok.head.dst m c.payload.result.now = rw (c.payload.ensures, ← is_head) given.message in
     let is_message : c.in_ok-message.message ≡ m = c.in_ok-message.ensures.only m there in
@@ -47,11 +47,11 @@ wants_memory mtus head m ends id (Err f) e is memory =
 
 pub unreachable-requires : goal.unreachable-requires
 unreachable-requires c =
-    c.in_default.not-Ok c.requires.head (c.read.ensures.only c.requires.head (payload_of c.requires.head c.args.packet.now) c.requires.is.is c.requires.is.header)
+    c.in_default.not-Ok c.requires.head (c.read.ensures.only c.requires.head (payload_of6 c.requires.head c.args.packet.now) c.requires.is.is c.requires.is.header)
 
 pub returns-in_err-message : goal.returns-in_err-message
 returns-in_err-message c = λ head m given.
-    let read = c.read.ensures.only head (payload_of head c.args.packet.now) given.is given.header in
+    let read = c.read.ensures.only head (payload_of6 head c.args.packet.now) given.is given.header in
     let is_head : head ≡ c.in-Ok.head = cc in
     let there : IsIcmp6 c.in-Ok.head.src c.in-Ok.head.dst m c.payload.result.now = rw (c.payload.ensures, ← is_head) given.message in
     let e : Fault = c.in_err-message.field-0.0 in

@@ -1,6 +1,6 @@
 use Rattle.std.proofs.Common.{◌≡◌, sym, subst}
 use Rattle.ip4_packet.specs.declared.head.Head4.{Head4}
-use Rattle.ip4_packet.specs.Grammar.{payload_of}
+use Rattle.ip4_packet.specs.Grammar.{payload_of4}
 use Rattle.icmp_messages.specs.declared.icmp4.Icmp4.{Icmp4}
 use Rattle.icmp_messages.specs.Message.{IsIcmp4}
 use Rattle.icmp_xlat.specs.Table.{row_of, table46}
@@ -10,7 +10,7 @@ use Rattle.icmp_xlat.proofs.to_icmp6.icmp46.Goals as goal
 pub answer46-requires-clause-embeds : goal.answer46-requires-clause-embeds
 answer46-requires-clause-embeds c =
     let given = c.requires.is in
-    let read = c.read.ensures.only c.requires.head (payload_of c.requires.head c.args.packet.now) given.is given.header in
+    let read = c.read.ensures.only c.requires.head (payload_of4 c.requires.head c.args.packet.now) given.is given.header in
     let is_head : c.requires.head ≡ c.in-Ok.head = cc in
     let there : IsIcmp4 c.requires.message c.payload.result.now = rw (c.payload.ensures, ← is_head) given.message in
     let is_message : c.in_ok-message.message ≡ c.requires.message = c.in_ok-message.ensures.only c.requires.message there in
@@ -18,7 +18,7 @@ answer46-requires-clause-embeds c =
 
 pub returns : goal.returns
 returns c = λ head m given.
-    let read = c.read.ensures.only head (payload_of head c.args.packet.now) given.is given.header in
+    let read = c.read.ensures.only head (payload_of4 head c.args.packet.now) given.is given.header in
     let is_head : head ≡ c.in-Ok.head = cc in
     let there : IsIcmp4 m c.payload.result.now = rw (c.payload.ensures, ← is_head) given.message in
     let is_message : c.in_ok-message.message ≡ m = c.in_ok-message.ensures.only m there in

@@ -2,7 +2,7 @@ use Rattle.std.proofs.Common.{◌≡◌, ℕ, ◌≤◌, length, inl, inr, refl,
 use Rattle.octets.specs.Fragment.{IsWrongFragment}
 use Rattle.ip4_packet.specs.Causes.{IsNoDestination4}
 use Rattle.ip4_packet.specs.declared.head.Head4.{Head4}
-use Rattle.ip4_packet.specs.Grammar.{payload_of}
+use Rattle.ip4_packet.specs.Grammar.{payload_of4}
 use Rattle.packet_faults.proofs.error4.fault4.Goals as goal
 
 whole : (len : ℕ) → len ≤ 65535 → IsWrongFragment 0 0 len → ⊥
@@ -19,7 +19,7 @@ returns-clause-none c = λ h payload is.
     let packet = c.args.packet.now in
     let read = c.read.ensures.only h payload is c.requires in
     let e : h ≡ c.in-Ok.head = cc (read, c.in-Ok.is) in
-    let p : payload ≡ c.payload.result.now = is.payload_is ∙ (ap (λ (x : Head4). payload_of x packet) e ∙ sym c.payload.ensures) in
+    let p : payload ≡ c.payload.result.now = is.payload_is ∙ (ap (λ (x : Head4). payload_of4 x packet) e ∙ sym c.payload.ensures) in
     (λ none. cc, λ unanswered. let answered = c.is_unanswered.ensures.1 (rw (e, p) at unanswered) in cc)
 
 pub returns-clause-accepted : goal.returns-clause-accepted

@@ -1,7 +1,7 @@
 use Rattle.std.proofs.Common.{◌≡◌, inr, refl, sym, ap, ◌∙◌, rules}
 use Rattle.ip6_packet.specs.Causes.{IsNoDestination6}
 use Rattle.ip6_packet.specs.declared.head.Head6.{Head6}
-use Rattle.ip6_packet.specs.Grammar.{payload_of}
+use Rattle.ip6_packet.specs.Grammar.{payload_of6}
 use Rattle.packet_faults.specs.Error.{IsUnanswered6}
 use Rattle.packet_faults.proofs.error6.fault6.Goals as goal
 
@@ -15,7 +15,7 @@ returns-then-is_unanswered-clause-none c = λ h payload is.
     let packet = c.args.packet.now in
     let read = c.read.ensures.only h payload is c.requires in
     let e : h ≡ c.in-Ok.head = cc (read, c.in-Ok.is) in
-    let p : payload ≡ c.payload.result.now = is.payload_is ∙ (ap (λ (x : Head6). payload_of x packet) e ∙ sym c.payload.ensures) in
+    let p : payload ≡ c.payload.result.now = is.payload_is ∙ (ap (λ (x : Head6). payload_of6 x packet) e ∙ sym c.payload.ensures) in
     let unanswered : IsUnanswered6 c.in-Ok.head c.payload.result.now = search rules in
     (λ none. rw (e, p) unanswered, λ other. refl)
 
@@ -24,7 +24,7 @@ returns-clause-none c = λ h payload is.
     let packet = c.args.packet.now in
     let read = c.read.ensures.only h payload is c.requires in
     let e : h ≡ c.in-Ok.head = cc (read, c.in-Ok.is) in
-    let p : payload ≡ c.payload.result.now = is.payload_is ∙ (ap (λ (x : Head6). payload_of x packet) e ∙ sym c.payload.ensures) in
+    let p : payload ≡ c.payload.result.now = is.payload_is ∙ (ap (λ (x : Head6). payload_of6 x packet) e ∙ sym c.payload.ensures) in
     (λ none. cc, λ unanswered. let answered = c.is_unanswered.ensures.1 (rw (e, p) at unanswered) in cc)
 
 pub returns-clause-accepted : goal.returns-clause-accepted

@@ -1,6 +1,6 @@
 use Rattle.std.proofs.Common.{◌≡◌, sym, ◌∙◌, arith}
 use Rattle.std.specs.Prelude.{not}
-use Rattle.ip4_packet.specs.Grammar.{payload_of}
+use Rattle.ip4_packet.specs.Grammar.{payload_of4}
 use Rattle.xlat46.proofs.tests.crossed.Goals as goal
 
 pub whole46-requires : goal.whole46-requires
@@ -9,7 +9,7 @@ whole46-requires c =
     let good = c.has_transport.ensures in
     let found = c.if-not-has_transport.false in
     record {
-      parts = record { head = head; proto = c.in_ok-proto.proto; payload = payload_of head c.args.packet.now };
+      parts = record { head = head; proto = c.in_ok-proto.proto; payload = payload_of4 head c.args.packet.now };
       sound = record {
         is = c.in-Ok.ensures.found.0;
         header = c.in-Ok.ensures.found.1;

@@ -1,6 +1,6 @@
 use Rattle.std.proofs.Common.{◌≡◌, sym, ◌∙◌, arith, rules}
 use Rattle.std.specs.Prelude.{not}
-use Rattle.ip6_packet.specs.Grammar.{payload_of}
+use Rattle.ip6_packet.specs.Grammar.{payload_of6}
 use Rattle.xlat64.proofs.tests.crossed.Goals as goal
 
 pub whole64-requires : goal.whole64-requires
@@ -9,7 +9,7 @@ whole64-requires c =
     let good = c.has_transport.ensures in
     let found = c.if-not-has_transport.false in
     record {
-      parts = record { head = head; proto = c.in_ok-proto.proto; payload = payload_of head c.args.packet.now };
+      parts = record { head = head; proto = c.in_ok-proto.proto; payload = payload_of6 head c.args.packet.now };
       sound = record {
         is = c.in-Ok.ensures.found.0;
         header = c.in-Ok.ensures.found.1;

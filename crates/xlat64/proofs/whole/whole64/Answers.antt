@@ -1,7 +1,7 @@
 use Rattle.std.proofs.Common.{◌≡◌, sym, subst, ◌∙◌}
 use Rattle.std.specs.Prelude.{IfOk}
 use Rattle.ip6_packet.specs.declared.head.Head6.{Head6}
-use Rattle.xlat64.specs.Whole.{Parts6, HasNoCause64, IsCarried6, packet64}
+use Rattle.xlat64.specs.Whole.{Parts6, HasNoTcpUdpCause6, IsCarried6, packet64}
 use Rattle.xlat64.proofs.Read.{offset_fits, are_parts}
 use Rattle.xlat64.proofs.whole.whole64.Goals as goal
 

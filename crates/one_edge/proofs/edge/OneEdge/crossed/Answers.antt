@@ -4,7 +4,7 @@ use Rattle.ip6_packet.specs.Fragment.{fragment_offset}
 use Rattle.xlat64.specs.Whole.{IsCarried6}
 use Rattle.one_edge.specs.Served.{parts_of}
 use Rattle.xlat46.specs.Whole.{packet46}
-use Rattle.ip6_packet.specs.Grammar.{payload_of}
+use Rattle.ip6_packet.specs.Grammar.{payload_of6}
 use Rattle.std.proofs.Common.{List}
 use Rattle.one_edge.specs.Edge.{edge_in}
 use Rattle.one_edge.proofs.Ways.{Made, fits_of, out_of, carries_by, crossed_by, access_short, payload_short, shorter}
@@ -43,7 +43,7 @@ made_after c = record {
 carries : (c : goal.After-packet64-arg-2-1) → IsCarried6 (record { head = c.head46-head.result; proto = c.args.taken.now.proto; payload = c.payload-carried.result.now }) × (c.head46-head.result.length ≡ length c.payload-carried.result.now)
 carries c =
     let out : c.in_ok-access.access ≡ packet46 (parts_of c.args.taken.now c.args.octets.now) c.own6-own6.result c.far6-far6.result (Some c.ports-ports.result) = rw c.payload-inside.ensures at c.in_ok-access.ensures in
-    let reads : c.payload-carried.result.now ≡ payload_of c.head46-head.result c.in_ok-access.access = c.payload-carried.ensures ∙ ap (λ (xs : List ℕ). payload_of c.head46-head.result xs) c.as_slice.ensures in
+    let reads : c.payload-carried.result.now ≡ payload_of6 c.head46-head.result c.in_ok-access.access = c.payload-carried.ensures ∙ ap (λ (xs : List ℕ). payload_of6 c.head46-head.result xs) c.as_slice.ensures in
     carries_by (edge_in c.args.self.now) c.args.taken.now c.args.octets.now c.in_ok-access.access c.payload-carried.result.now c.head46-head.result c.own6-own6.result c.far6-far6.result c.ports-ports.result c.requires (made_before c) out reads
 
 pub packet64-requires-clause-length_is : goal.packet64-requires-clause-length_is
@@ -54,12 +54,12 @@ packet64-requires-clause-carried c = (carries c).0
 
 record Packets (c : goal.In_ok-core) : Type 0 where
   out : c.in_ok-access.access ≡ packet46 (parts_of c.args.taken.now c.args.octets.now) c.own6-own6.result c.far6-far6.result (Some c.ports-ports.result)
-  reads : c.payload-carried.result.now ≡ payload_of c.head46-head.result c.in_ok-access.access
+  reads : c.payload-carried.result.now ≡ payload_of6 c.head46-head.result c.in_ok-access.access
 
 packets : (c : goal.In_ok-core) → Packets c
 packets c = record {
   out = rw c.payload-inside.ensures at c.in_ok-access.ensures;
-  reads = c.payload-carried.ensures ∙ ap (λ (xs : List ℕ). payload_of c.head46-head.result xs) c.as_slice.ensures;
+  reads = c.payload-carried.ensures ∙ ap (λ (xs : List ℕ). payload_of6 c.head46-head.result xs) c.as_slice.ensures;
 }
 
 pub returns-clause-crossed : goal.returns-clause-crossed
