@@ -1,12 +1,11 @@
 -- Tables of changes that say nothing.
-use Rattle.std.proofs.Common.{◌≡◌, Option, Some, None, sym, ◌∙◌}
+use Rattle.std.proofs.Common.{◌≡◌, Some, None, sym, ◌∙◌}
 use Rattle.std.proofs.lemmas.Option.{none-some, same_Some}
 use Rattle.toml.specs.Data.{Members}
 use Rattle.octets.specs.declared.prefix.Prefix6.{Prefix6}
 use Rattle.mapt_setup.specs.declared.rule.RuleLine.{RuleLine}
 use Rattle.mapt_setup.specs.declared.change.Verb.{Verb}
 use Rattle.mapt_setup.specs.declared.change.Verb.TheVariants as verb
-use Rattle.mapt_setup.specs.declared.change.Action.{Action}
 use Rattle.mapt_setup.specs.declared.change.Action.TheVariants as action
 use Rattle.mapt_setup.specs.Answer.{HasNone}
 use Rattle.mapt_setup.specs.Change.{verb_at, Adds, Removes, Replaces, HasAction}

@@ -14,7 +14,7 @@ use Rattle.mapt_setup.specs.declared.fault.SetupCause.{SetupCause}
 use Rattle.mapt_setup.specs.declared.fault.SetupCause.TheVariants.{EdgeName, EdgeOverlap, EdgeOverDmr}
 use Rattle.mapt_setup.specs.declared.fault.SetupFault.{SetupFault}
 use Rattle.mapt_setup.specs.declared.fault.SetupFault.TheVariants.{Refused}
-use Rattle.mapt_setup.specs.Beside.{first_after, FailsBefore, IsFirstBeside}
+use Rattle.mapt_setup.specs.Beside.{first_after, IsFirstBeside}
 use Rattle.mapt_setup.specs.Crowd.{has_name_of, is_crowded, is_over, edge_fault, AreApart}
 use Rattle.mapt_setup.proofs.FirstBeside.{first-is, none-is, is-none, element-at}
 

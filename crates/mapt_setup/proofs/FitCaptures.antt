@@ -1,6 +1,6 @@
 -- The test of captures tells exactly whether they fit.
-use Rattle.std.proofs.Common.{◌≡◌, ℕ, zero, suc, ◌<◌, ◌≤◌, Bool, true, false, List, [], ◌∷◌, length, get_or, take, refl, sym, ap, subst, ◌∙◌, arith, Option, Some, None}
-use Rattle.std.specs.Prelude.{◌↔◌, ◌&&◌, ◌||◌, IsTrue, is_none, nat_le, nat_lt}
+use Rattle.std.proofs.Common.{◌≡◌, ℕ, zero, suc, ◌<◌, Bool, true, false, List, [], ◌∷◌, length, get_or, take, refl, sym, ap, subst, ◌∙◌, arith, Option, Some, None}
+use Rattle.std.specs.Prelude.{◌↔◌, ◌&&◌, ◌||◌, IsTrue, is_none}
 use Rattle.std.specs.List.{All, AllPairs, list_all, list_any}
 use Rattle.std.proofs.lemmas.Bool.{and_parts, leb-true, le-leb, ltb-true, lt-ltb}
 use Rattle.std.proofs.lemmas.List.{get_or-take, get_or_default, length-take-le}
@@ -8,8 +8,8 @@ use Rattle.pcap_files.specs.declared.records.Record.{Record}
 use Rattle.pcap_files.specs.Written.{IsWritable}
 use Rattle.mapt_setup.specs.declared.capture.Capture.{Capture}
 use Rattle.mapt_setup.specs.declared.setup.Setup.{Setup}
-use Rattle.mapt_setup.specs.Beside.{first_after, FailsBefore}
-use Rattle.mapt_setup.specs.Fit.{is_side_of, same_side, has_side_of, records_count, most_records, is_writable, is_fitting, FitsSetup}
+use Rattle.mapt_setup.specs.Beside.{first_after}
+use Rattle.mapt_setup.specs.Fit.{is_side_of, same_side, has_side_of, is_writable, is_fitting, FitsSetup}
 use Rattle.mapt_setup.proofs.FirstBeside.{none-is, is-none}
 use Rattle.mapt_setup.proofs.ValidForwards.{all_fail}
 

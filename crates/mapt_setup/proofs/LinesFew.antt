@@ -1,5 +1,5 @@
 -- A container has at most 256 lines of rules.
-use Rattle.std.proofs.Common.{◌≡◌, ◌≤◌, ◌+◌, ℕ, true, cond, List, [], ◌∷◌, ◌++◌, length, refl, ap, ◌∙◌, sym, arith}
+use Rattle.std.proofs.Common.{◌≡◌, ◌≤◌, ◌+◌, ℕ, true, cond, List, [], ◌∷◌, length, refl, arith}
 use Rattle.std.specs.List.{count_by}
 use Rattle.std.proofs.lemmas.Bool.{and_parts, leb-true}
 use Rattle.std.proofs.lemmas.List.{length-append}
@@ -7,7 +7,6 @@ use Rattle.std.proofs.lemmas.List.Sums.{sum_by-cons}
 use Rattle.s46_options.specs.declared.item.Item.{Item}
 use Rattle.s46_options.specs.declared.item.Item.TheVariants as item
 use Rattle.s46_options.specs.Accepted.{is_rule, is_accepted}
-use Rattle.mapt_setup.specs.declared.rule.RuleLine.{RuleLine}
 use Rattle.mapt_setup.specs.Lines.{line_of, lines_in}
 
 one_line : (x : Item) → length (line_of x) ≡ cond {A = ℕ} (is_rule x) 1 0

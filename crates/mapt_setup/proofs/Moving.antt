@@ -1,17 +1,16 @@
 -- The changes of a list, one after the other.
 use Rattle.std.proofs.Common.{◌≡◌, ℕ, zero, suc, ◌+◌, ◌-◌, ◌<◌, ◌≤◌, true, false, List, [], ◌∷◌, ◌++◌, length, get_or, take, drop, refl, sym, ap, subst, ◌∙◌, arith, Option, Some, None, ◌⊎◌, inl, inr, append_assoc}
-use Rattle.std.specs.Prelude.{Result, Ok, Err, slice_get, IsSome, IsTrue, nat_lt}
+use Rattle.std.specs.Prelude.{Result, Ok, Err, slice_get, IsSome, nat_lt}
 use Rattle.std.specs.Option.{option_map_or}
-use Rattle.std.specs.List.{All, AllZip, AllAdjacentBelow}
+use Rattle.std.specs.List.{All, AllZip}
 use Rattle.std.specs.List.Sorted.{IsNonDecreasingBy}
 use Rattle.std.proofs.lemmas.List.Sorted.{IsNonDecreasingBy-from_all_adjacent}
 use Rattle.std.proofs.lemmas.List.{append-nil, get_or-take, length-take-le, drop_all, drop_more}
 use Rattle.std.proofs.lemmas.Option.{slice_get-get_or}
-use Rattle.std.proofs.lemmas.Bool.{false≢true, lt-ltb}
+use Rattle.std.proofs.lemmas.Bool.{false≢true}
 use Rattle.map_rules.specs.declared.rule.Rule.{Rule}
 use Rattle.map_rules.specs.declared.dmr.Dmr.{Dmr}
 use Rattle.map_rules.proofs.Same.{same_rule}
-use Rattle.octets.specs.declared.prefix.Prefix6.{Prefix6}
 use Rattle.rule_book.specs.declared.book.Book.{Book}
 use Rattle.rule_book.specs.Book.{rules_of, dmr_of, generation_of}
 use Rattle.rule_book.specs.declared.change.Change.{Change}
@@ -26,8 +25,8 @@ use Rattle.mapt_setup.specs.declared.moves.MoveLine.{MoveLine}
 use Rattle.mapt_setup.specs.declared.fault.SetupCause.TheVariants.{ChangeOrder, ChangeRefused}
 use Rattle.mapt_setup.specs.declared.fault.SetupFault.{SetupFault}
 use Rattle.mapt_setup.specs.declared.fault.SetupFault.TheVariants.{Refused, NoMemory}
-use Rattle.mapt_setup.specs.Answer.{HasNone, IsThen, Gives, exactly}
-use Rattle.mapt_setup.specs.Beside.{first_after, FailsBefore}
+use Rattle.mapt_setup.specs.Answer.{HasNone, Gives, exactly}
+use Rattle.mapt_setup.specs.Beside.{first_after}
 use Rattle.mapt_setup.specs.Change.{most_at}
 use Rattle.mapt_setup.specs.Generation.{rules_after_all}
 use Rattle.mapt_setup.specs.Moves.{is_early, order_fault, HasChange, IsMove, moves_from}

@@ -63,7 +63,7 @@ use Rattle.mapt_setup.specs.declared.origin.Given.{Given}
 use Rattle.mapt_setup.specs.declared.origin.Origin.{Origin}
 use Rattle.mapt_setup.specs.declared.origin.Origin.TheVariants as origin
 use Rattle.mapt_setup.specs.Lines.{lines_in, dmr_in}
-use Rattle.mapt_setup.specs.Origin.{SaysItems, SaysContainer, SaysOptions, HasKeys, HasOptions, HasOrigin, given_by}
+use Rattle.mapt_setup.specs.Origin.{SaysItems, SaysContainer, SaysOptions, HasKeys, HasOrigin, given_by}
 use Rattle.mapt_setup.specs.Domain.{HasRequired, IsDomain}
 use Rattle.mapt_setup.specs.Rule.{IsRuleTable, IsRule}
 use Rattle.mapt_setup.specs.Edge.{IsEdgeTable, IsEdge}

@@ -1,5 +1,5 @@
 -- Forwards at the edges that they name.
-use Rattle.std.proofs.Common.{◌≡◌, ℕ, List, Some, None, sym, ◌∙◌}
+use Rattle.std.proofs.Common.{◌≡◌, List, None, sym, ◌∙◌}
 use Rattle.std.proofs.lemmas.Option.{none-some}
 use Rattle.mapt_setup.specs.declared.edge.EdgeLine.{EdgeLine}
 use Rattle.mapt_setup.specs.declared.forward.ForwardText.{ForwardText}

@@ -1,26 +1,24 @@
 -- The forwards that are set up are valid.
-use Rattle.std.proofs.Common.{◌≡◌, ℕ, zero, suc, ◌+◌, ◌<◌, ◌≤◌, Bool, true, false, cond, List, [], ◌∷◌, length, get_or, take, refl, sym, ap, subst, ◌∙◌, arith, Option, Some, None, ◌⊎◌, inl, inr}
-use Rattle.std.specs.Prelude.{not, nat_eq, ◌&&◌, ◌||◌, IsTrue, Result, Ok, Err, option_map}
-use Rattle.std.specs.Option.{option_or}
+use Rattle.std.proofs.Common.{◌≡◌, ℕ, zero, suc, ◌<◌, ◌≤◌, Bool, true, false, List, [], ◌∷◌, length, get_or, take, refl, sym, ap, subst, arith, None, ◌⊎◌}
+use Rattle.std.specs.Prelude.{not, nat_eq, ◌||◌, IsTrue}
 use Rattle.std.specs.List.{All, AllPairs, AllZip, list_any, position}
-use Rattle.std.proofs.lemmas.Bool.{false≢true, eq-eqb, leb-true}
+use Rattle.std.proofs.lemmas.Bool.{eq-eqb}
 use Rattle.std.proofs.lemmas.List.{get_or-take, length-take-le}
-use Rattle.std.proofs.lemmas.Option.{none-some, same_Some}
 use Rattle.octets.proofs.Places.{position-exactly, position-none}
 use Rattle.octets.specs.declared.proto.Proto.{Proto}
 use Rattle.octets.specs.declared.proto.Proto.TheVariants.{Tcp, Udp, Icmp}
 use Rattle.map_rules.specs.declared.rule.Rule.{Rule}
 use Rattle.rule_book.proofs.Sound.{map-None}
 use Rattle.nat_model.specs.declared.binding.Binding.{Binding}
-use Rattle.nat_model.specs.Binding.{same_proto, is_of_host, is_of_port}
+use Rattle.nat_model.specs.Binding.{same_proto}
 use Rattle.nat_model.specs.Sound.{AreApart}
 use Rattle.mapt_setup.specs.declared.edge.EdgeLine.{EdgeLine}
 use Rattle.mapt_setup.specs.declared.forward.ForwardText.{ForwardText}
 use Rattle.mapt_setup.specs.declared.forward.ForwardLine.{ForwardLine}
-use Rattle.mapt_setup.specs.Beside.{first_after, FailsBefore}
-use Rattle.mapt_setup.specs.Forward.{HasBinding, most_until, never}
-use Rattle.mapt_setup.specs.Claims.{edge_place, IsAtEdge, holder_of_edge, may_claim, is_unclaimable, host_end, collides, is_taken, forward_fault}
-use Rattle.mapt_setup.specs.Valid.{IsValidForward, AreValidForwards}
+use Rattle.mapt_setup.specs.Beside.{first_after}
+use Rattle.mapt_setup.specs.Forward.{most_until, never}
+use Rattle.mapt_setup.specs.Claims.{IsAtEdge, holder_of_edge, may_claim, is_unclaimable, collides, is_taken, forward_fault}
+use Rattle.mapt_setup.specs.Valid.{AreValidForwards}
 use Rattle.mapt_setup.specs.declared.fault.SetupCause.TheVariants.{ForwardPort, ForwardTwice}
 use Rattle.mapt_setup.specs.declared.fault.SetupFault.TheVariants.{Refused}
 use Rattle.mapt_setup.proofs.FirstBeside.{none-is}

@@ -1,7 +1,7 @@
 -- What a configuration sets up is valid.
-use Rattle.std.proofs.Common.{◌≡◌, ℕ, ◌≤◌, Bool, true, false, cond, List, length, codes, refl, sym, ap, subst, ◌∙◌, arith, Option, Some, None, ◌⊎◌, inl, inr}
+use Rattle.std.proofs.Common.{◌≡◌, ℕ, ◌≤◌, Bool, true, false, cond, List, length, codes, refl, sym, subst, arith, Option, Some, None, ◌⊎◌, inl, inr}
 use Rattle.std.specs.Prelude.{Result, Ok, Err, IfOk, IsTrue, ◌||◌, ◌&&◌, nat_le, nat_lt, pos, option_and_then, option_map}
-use Rattle.std.specs.List.{All, AllZip}
+use Rattle.std.specs.List.{All}
 use Rattle.std.proofs.lemmas.Option.{none-some, same_Some}
 use Rattle.std.proofs.lemmas.Bool.{and_parts, leb-true}
 use Rattle.toml.specs.Data.{Data, string, integer, float, boolean, datetime, array, table, Members, get_member}
@@ -18,19 +18,19 @@ use Rattle.mapt_setup.specs.declared.origin.Given.{Given}
 use Rattle.mapt_setup.specs.declared.tables.Tables.{Tables}
 use Rattle.mapt_setup.specs.declared.setup.Setup.{Setup}
 use Rattle.mapt_setup.specs.declared.fault.SetupCause.{SetupCause}
-use Rattle.mapt_setup.specs.declared.fault.SetupCause.TheVariants.{TooMany, BadForward}
+use Rattle.mapt_setup.specs.declared.fault.SetupCause.TheVariants.{TooMany}
 use Rattle.mapt_setup.specs.declared.fault.SetupFault.{SetupFault}
 use Rattle.mapt_setup.specs.declared.fault.SetupFault.TheVariants.{Refused}
-use Rattle.mapt_setup.specs.Answer.{Gives, HasNone, OfTable, IsThen, barring, exactly, each, such}
+use Rattle.mapt_setup.specs.Answer.{Gives, OfTable, barring, exactly, such}
 use Rattle.mapt_setup.specs.Keys.{tables_at, text_at, number_in, within, or_default}
 use Rattle.mapt_setup.specs.EdgeName.{is_edge_name, named}
 use Rattle.mapt_setup.specs.Edge.{IsEdge, IsEdgeTable}
-use Rattle.mapt_setup.specs.Forward.{HasBinding, IsForward, IsForwardTable, most_until, never}
+use Rattle.mapt_setup.specs.Forward.{IsForward, IsForwardTable, most_until, never}
 use Rattle.mapt_setup.specs.Change.{IsChange, IsChangeTable, most_at}
 use Rattle.mapt_setup.specs.Claims.{IsAtEdge, forward_fault, forwards_of}
 use Rattle.mapt_setup.specs.Crowd.{edge_fault, AreApart}
 use Rattle.mapt_setup.specs.Moves.{order_fault, moves_from, changes_of}
-use Rattle.mapt_setup.specs.Shapes.{HasParts, BreaksShape, IsFirstBook, refused_by, book_of}
+use Rattle.mapt_setup.specs.Shapes.{IsFirstBook, refused_by}
 use Rattle.rule_book.specs.Refusal.{refusal_of}
 use Rattle.mapt_setup.specs.Tables.{is_long, has_too_many, early_fault, listed, tables_of}
 use Rattle.mapt_setup.specs.Setup.{first_book, tables_setup, document_setup, setup_of}
@@ -38,7 +38,7 @@ use Rattle.mapt_setup.specs.Valid.{AreValidEdges, AreValidForwards, AreValidChan
 use Rattle.mapt_setup.proofs.FirstEdges.{apart-exactly}
 use Rattle.mapt_setup.proofs.ListReads.{length-AllZip}
 use Rattle.mapt_setup.proofs.Moving.{valid_changes}
-use Rattle.mapt_setup.proofs.Stages.{Said, same_of}
+use Rattle.mapt_setup.proofs.Stages.{same_of}
 use Rattle.mapt_setup.proofs.ValidForwards.{IsKept, all_read, valid_forwards}
 
 -- ---- what a stage that gave a value had

@@ -1,9 +1,8 @@
 -- The rules of each generation of a configuration: those of generation 0 after its first changes. A live change
 -- is counted like any other.
-use Rattle.std.specs.Prelude.{◌≡◌, ℕ, nat_le, List, [], ◌∷◌, map, take, length, if◌then◌else◌, Result, Ok, Err}
+use Rattle.std.specs.Prelude.{◌≡◌, ℕ, nat_le, List, [], ◌∷◌, take, length, if◌then◌else◌, Result, Ok, Err}
 use Rattle.map_rules.specs.declared.rule.Rule.{Rule}
 use Rattle.rule_book.specs.declared.book.Book.{Book}
-use Rattle.rule_book.specs.declared.change.Change.{Change}
 use Rattle.rule_book.specs.Book.{rules_of, dmr_of, generation_of}
 use Rattle.rule_book.specs.Change.{rules_after}
 use Rattle.mapt_setup.specs.declared.moves.MoveLine.{MoveLine}

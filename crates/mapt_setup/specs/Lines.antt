@@ -1,5 +1,5 @@
 -- The default mapping rule and the rules of a container's items.
-use Rattle.std.specs.Prelude.{ℕ, List, [], ◌∷◌, Option, Some, None}
+use Rattle.std.specs.Prelude.{List, [], ◌∷◌, Option, Some, None}
 use Rattle.std.specs.List.{flat_map}
 use Rattle.octets.specs.declared.prefix.Prefix6.{Prefix6}
 use Rattle.s46_options.specs.declared.item.Item.{Item}

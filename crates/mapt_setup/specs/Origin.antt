@@ -1,6 +1,6 @@
 -- Where the default mapping rule and the rules of a configuration come from: from `dmr` and `[[rule]]`, or
 -- from the DHCPv6 options that stand in `options` as hexadecimal text (RFC 7598).
-use Rattle.std.specs.Prelude.{◌≡◌, ◌≤◌, ◌⊎◌, ℕ, List, codes, length, false, Option, Some, None, Result, Ok, Err}
+use Rattle.std.specs.Prelude.{◌≡◌, ◌≤◌, ◌⊎◌, ℕ, List, codes, length, false, Some, None, Result, Ok, Err}
 use Rattle.toml.specs.Data.{Members}
 use Rattle.s46_options.specs.declared.item.Item.{Item}
 use Rattle.s46_options.specs.declared.fault.OptionFault.{OptionFault}

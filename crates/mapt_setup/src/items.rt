@@ -77,6 +77,7 @@ fn add_records(
 ) -> Result<(), NoMemory>
     ensures { OnOk result (items.new.items ≡ items.old.items ++ record_items side records.now) }
 {
+    items.reserve(records.len())?;
     for record in records {
         items.push(ScriptItem::Rec {
             side,

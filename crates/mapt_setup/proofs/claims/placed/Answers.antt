@@ -1,4 +1,4 @@
-use Rattle.std.proofs.Common.{◌≡◌, ℕ, None, List, refl, subst, sym, ◌∙◌, map}
+use Rattle.std.proofs.Common.{◌≡◌, None, List, refl, subst, sym, ◌∙◌, map}
 use Rattle.std.specs.List.{AllZip}
 use Rattle.mapt_setup.specs.declared.forward.ForwardText.{ForwardText}
 use Rattle.mapt_setup.specs.Answer.{HasNone, IsFirstBad}
