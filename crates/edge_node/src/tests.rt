@@ -3,10 +3,12 @@
 ghost use Rattle.edge_node.specs.Hop.{IsAnswerAt};
 
 use super::*;
-use nat_model::Answer;
-use octets::{Addr4, Addr6, Cause, Fault, Mtus, NoMemory, Parcels};
+use nat_model::{Answer, Ask, Part};
+use octets::{Addr4, Addr6, Cause, Fault, Mtus, NoMemory, Parcels, Proto};
 use std::alloc::Global;
 use std::test::Fail;
+
+mod hops;
 
 /// The home's MAP address, and a host of the core under the default mapping rule.
 const EDGE: Addr6 = Addr6(0x2001_0db8_0012_3400_0000_c000_0212_0034);
@@ -315,6 +317,38 @@ fn packets_of_a_home_are_emitted(rt: HostRuntime) -> Result<(), Fail> {
             RECEIVED
         )
     );
+    Ok(())
+}
+
+/// A SYN from port 5000 of 192.168.1.10 to port 443 of 198.51.100.7.
+const SYN: &[u8] =
+    b"\x45\x00\x00\x28\x00\x01\x00\x00\x40\x06\x8e\xe2\xc0\xa8\x01\x0a\xc6\x33\x64\x07\x13\x88\x01\xbb\x00\x00\x00\x00\x00\x00\x00\x00\x50\x02\xff\xff\xae\xb2\x00\x00";
+
+/// Whether the ask is about a whole packet from 192.168.1.10:5000 to this port of 198.51.100.7, with these flags.
+fn is_of_flow(ask: &Ask, of: Proto, to: u16, with: u8) -> bool {
+    match ask {
+        Ask::Outward {
+            fault: false,
+            proto,
+            near,
+            far,
+            flags,
+            part: Part::Whole,
+        } => {
+            let from = near.addr == Addr4(0xc0a8_010a) && near.port == 5000;
+            let goes = far.addr == Addr4(0xc633_6407) && far.port == to;
+            *proto == of && from && goes && *flags == with
+        }
+        _ => false,
+    }
+}
+
+#[test]
+fn a_flow_is_asked_about_by_its_ends(rt: HostRuntime) -> Result<(), Fail> {
+    let alloc = rt.alloc();
+    let (datagram, _, _) = OUT[0];
+    assert!(rt; is_of_flow(&ask_of(alloc, Way::Lan, datagram)?, Proto::Udp, 53, 0));
+    assert!(rt; is_of_flow(&ask_of(alloc, Way::Lan, SYN)?, Proto::Tcp, 443, 2));
     Ok(())
 }
 
