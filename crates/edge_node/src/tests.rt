@@ -223,12 +223,18 @@ fn home() -> EdgeParams {
     }
 }
 
-/// What the home's edge emits. Its packets without an identification of their own get 7.
-fn emitted(alloc: Global, way: Way, answer: &Answer, packet: &[u8]) -> Result<Hop, Fault>
+/// What an edge emits. Its packets without an identification of their own get 7.
+fn emitted(
+    alloc: Global,
+    edge: &EdgeParams,
+    way: Way,
+    answer: &Answer,
+    packet: &[u8],
+) -> Result<Hop, Fault>
     requires { IsAnswerAt way answer.now }
 {
     match ask_of(alloc, way, packet) {
-        Ok(_) => Ok(emit(alloc, &home(), way, answer, packet, 7)?),
+        Ok(_) => Ok(emit(alloc, edge, way, answer, packet, 7)?),
         Err(fault) => Err(fault),
     }
 }
@@ -279,7 +285,13 @@ fn packets_of_a_home_are_emitted(rt: HostRuntime) -> Result<(), Fail> {
             dst6: FAR,
             freed: Parcels::new(alloc),
         };
-        assert!(rt; sends(&emitted(alloc, Way::Lan, &answer, packet)?, to, expected));
+        assert!(rt;
+            sends(
+                &emitted(alloc, &home(), Way::Lan, &answer, packet)?,
+                to,
+                expected
+            )
+        );
     }
     for (packet, to, expected) in IN {
         let answer = Answer::In {
@@ -289,7 +301,13 @@ fn packets_of_a_home_are_emitted(rt: HostRuntime) -> Result<(), Fail> {
             peer: Addr4(0xc633_6407),
             freed: Parcels::new(alloc),
         };
-        assert!(rt; sends(&emitted(alloc, Way::Access, &answer, packet)?, to, expected));
+        assert!(rt;
+            sends(
+                &emitted(alloc, &home(), Way::Access, &answer, packet)?,
+                to,
+                expected
+            )
+        );
     }
     let turn = Answer::Turn {
         from: Addr4(0xc000_0212),
@@ -298,7 +316,7 @@ fn packets_of_a_home_are_emitted(rt: HostRuntime) -> Result<(), Fail> {
     };
     assert!(rt;
         sends(
-            &emitted(alloc, Way::Lan, &turn, BEFORE)?,
+            &emitted(alloc, &home(), Way::Lan, &turn, BEFORE)?,
             To::Itself,
             TURNED
         )
@@ -312,7 +330,7 @@ fn packets_of_a_home_are_emitted(rt: HostRuntime) -> Result<(), Fail> {
     };
     assert!(rt;
         sends(
-            &emitted(alloc, Way::Turned, &received, TURNED)?,
+            &emitted(alloc, &home(), Way::Turned, &received, TURNED)?,
             To::Lan,
             RECEIVED
         )

@@ -3,8 +3,8 @@
 ghost use Rattle.std.specs.Prelude.{IsTrue, ◌<◌};
 ghost use Rattle.edge_node.specs.Hop.{IsAnswerAt};
 
-use super::{EDGE, FAR, To, dropped};
-use crate::{EdgeParams, Out, Way, ask_of, emit};
+use super::{EDGE, FAR, To, dropped, emitted};
+use crate::{EdgeParams, Out, Way};
 use Text::{Long, Plain};
 use nat_model::Answer;
 use octets::{Addr4, Bytes, Cause, Fault, Mtus, NoMemory, Parcel, Parcels};
@@ -109,8 +109,8 @@ const FROM_ITSELF: Row = Row {
     ..FROM_LAN
 };
 
-/// The hops.
-const HOPS: [Row; 96] = [
+/// Whole packets and their sums.
+const WHOLE: [Row; 6] = [
     Row {
         name: "a sum that comes to 0 is written as ffff",
         packet: Plain("4500001e0001000040118ee1c0a8010ac633640713880035000a924f6de0"),
@@ -182,6 +182,10 @@ const HOPS: [Row; 96] = [
         )],
         ..FROM_ACCESS
     },
+];
+
+/// Packets that are too long, and those that just fit.
+const LONG: [Row; 12] = [
     Row {
         name: "a packet that is too long is cut in two",
         packet: Long(
@@ -346,6 +350,92 @@ const HOPS: [Row; 96] = [
         ..FROM_LAN
     },
     Row {
+        name: "a long packet without one may not",
+        packet: Long(
+            "6000000004d9113f20010db8ffff000000c633640700000020010db8001234000000c00002120034003504d004d9e736",
+            0,
+            1233,
+        ),
+        sent: &[(
+            To::Lan,
+            Long(
+                "450004ed000740003e114c0cc6336407c0a8010a0035138804d97986",
+                0,
+                1233,
+            ),
+        )],
+        ..FROM_ACCESS
+    },
+    Row {
+        name: "a packet of 1260 octets may",
+        packet: Long(
+            "6000000004d8113f20010db8ffff000000c633640700000020010db8001234000000c00002120034003504d004d8cb39",
+            0,
+            1232,
+        ),
+        sent: &[(
+            To::Lan,
+            Long(
+                "450004ec000700003e118c0dc6336407c0a8010a0035138804d85d89",
+                0,
+                1232,
+            ),
+        )],
+        ..FROM_ACCESS
+    },
+    Row {
+        name: "a packet from the access network is too big for the LAN: its sender is told 1420, from where it sent to",
+        packet: Long(
+            "600000000565113f20010db8ffff000000c633640700000020010db8001234000000c00002120034003504d00565e563",
+            0,
+            1373,
+        ),
+        mtus: NARROW,
+        sent: &[(
+            To::Access,
+            Long(
+                "6000000004d83a4020010db8001234000000c0000212003420010db8ffff000000c63364070000000200f52c0000058c600000000565113f20010db8ffff000000c633640700000020010db8001234000000c00002120034003504d00565e563",
+                0,
+                1184,
+            ),
+        )],
+        dropped: &[Cause::TooBig],
+        ..FROM_ACCESS
+    },
+    Row {
+        name: "one of 1400 octets over IPv4 fits",
+        packet: Long(
+            "600000000564113f20010db8ffff000000c633640700000020010db8001234000000c00002120034003504d005645a66",
+            0,
+            1372,
+        ),
+        mtus: NARROW,
+        sent: &[(
+            To::Lan,
+            Long(
+                "45000578000740003e114b81c6336407c0a8010a003513880564ecb5",
+                0,
+                1372,
+            ),
+        )],
+        ..FROM_ACCESS
+    },
+    Row {
+        name: "an error that is too big is answered by none",
+        packet: Long(
+            "60000000051d3a3f20010db8ffff000000c633640700000020010db8001234000000c000021200340104fb80000000006000000004ed113f20010db8001234000000c0000212003420010db8ffff000000c633640700000004d0003504ed87b9",
+            0,
+            1253,
+        ),
+        mtus: LOW,
+        dropped: &[Cause::TooBig],
+        ..FROM_ACCESS
+    },
+];
+
+/// Fragments from the LAN.
+const FRAGMENTS_OUT: [Row; 8] = [
+    Row {
         name: "a first fragment is noted",
         packet: Plain("450000241235200040115ca7c0a8010ac633640713880035003082520001020304050607"),
         sent: &[(
@@ -479,67 +569,10 @@ const HOPS: [Row; 96] = [
         dropped: &[Cause::FragmentsFull],
         ..FROM_LAN
     },
-    Row {
-        name: "a TTL of 0 is spent",
-        packet: Plain("4500001e000100000011cee1c0a8010ac633640713880035000a97c66869"),
-        sent: &[(
-            To::Lan,
-            Plain(
-                "4500003a000700004001f760c0a80101c0a8010a0b00e108000000004500001e000100000011cee1c0a8010ac633640713880035000a97c66869",
-            ),
-        )],
-        dropped: &[Cause::TtlSpent],
-        ..FROM_LAN
-    },
-    Row {
-        name: "a packet that would be turned is spent",
-        packet: Plain("4500001e0001000001113609c0a8010bc0000212138808d1000af7516869"),
-        told: Told::Turn(1232),
-        sent: &[(
-            To::Lan,
-            Plain(
-                "4500003a000700004001f75fc0a80101c0a8010b0b0078e1000000004500001e0001000001113609c0a8010bc0000212138808d1000af7516869",
-            ),
-        )],
-        dropped: &[Cause::TtlSpent],
-        ..FROM_LAN
-    },
-    Row {
-        name: "an error that is spent is answered by none",
-        packet: Plain(
-            "4500003a000100000101cdd5c0a8010ac63364070303e905000000004500001e000100003c1192e1c6336407c0a8010a00351388000a97c66869",
-        ),
-        dropped: &[Cause::TtlSpent],
-        ..FROM_LAN
-    },
-    Row {
-        name: "a hop limit of 0 is spent",
-        packet: Plain(
-            "60000000000a110020010db8ffff000000c633640700000020010db8001234000000c00002120034003504d0000a05776869",
-        ),
-        sent: &[(
-            To::Access,
-            Plain(
-                "60000000003a3a4020010db8001234000000c0000212003420010db8ffff000000c63364070000000300fea60000000060000000000a110020010db8ffff000000c633640700000020010db8001234000000c00002120034003504d0000a05776869",
-            ),
-        )],
-        dropped: &[Cause::TtlSpent],
-        ..FROM_ACCESS
-    },
-    Row {
-        name: "a spent packet from an unspecified source is answered by none",
-        packet: Plain(
-            "60000000000a11010000000000000000000000000000000020010db8001234000000c00002120034003504d0000a6e5a6869",
-        ),
-        dropped: &[Cause::TtlSpent],
-        ..FROM_ACCESS
-    },
-    Row {
-        name: "a spent packet from a group is answered by none",
-        packet: Plain("4500001e000100000111af8ee0000005c633640713880035000a79736869"),
-        dropped: &[Cause::TtlSpent],
-        ..FROM_LAN
-    },
+];
+
+/// Fragments from the access network.
+const FRAGMENTS_IN: [Row; 6] = [
     Row {
         name: "a first fragment comes in before those that it frees",
         packet: Plain(
@@ -645,88 +678,75 @@ const HOPS: [Row; 96] = [
         )],
         ..FROM_ACCESS
     },
+];
+
+/// TTLs and hop limits that are spent.
+const SPENT: [Row; 6] = [
     Row {
-        name: "a long packet without one may not",
-        packet: Long(
-            "6000000004d9113f20010db8ffff000000c633640700000020010db8001234000000c00002120034003504d004d9e736",
-            0,
-            1233,
-        ),
+        name: "a TTL of 0 is spent",
+        packet: Plain("4500001e000100000011cee1c0a8010ac633640713880035000a97c66869"),
         sent: &[(
             To::Lan,
-            Long(
-                "450004ed000740003e114c0cc6336407c0a8010a0035138804d97986",
-                0,
-                1233,
+            Plain(
+                "4500003a000700004001f760c0a80101c0a8010a0b00e108000000004500001e000100000011cee1c0a8010ac633640713880035000a97c66869",
             ),
         )],
-        ..FROM_ACCESS
+        dropped: &[Cause::TtlSpent],
+        ..FROM_LAN
     },
     Row {
-        name: "a packet of 1260 octets may",
-        packet: Long(
-            "6000000004d8113f20010db8ffff000000c633640700000020010db8001234000000c00002120034003504d004d8cb39",
-            0,
-            1232,
-        ),
+        name: "a packet that would be turned is spent",
+        packet: Plain("4500001e0001000001113609c0a8010bc0000212138808d1000af7516869"),
+        told: Told::Turn(1232),
         sent: &[(
             To::Lan,
-            Long(
-                "450004ec000700003e118c0dc6336407c0a8010a0035138804d85d89",
-                0,
-                1232,
+            Plain(
+                "4500003a000700004001f75fc0a80101c0a8010b0b0078e1000000004500001e0001000001113609c0a8010bc0000212138808d1000af7516869",
             ),
         )],
-        ..FROM_ACCESS
+        dropped: &[Cause::TtlSpent],
+        ..FROM_LAN
     },
     Row {
-        name: "a packet from the access network is too big for the LAN: its sender is told 1420, from where it sent to",
-        packet: Long(
-            "600000000565113f20010db8ffff000000c633640700000020010db8001234000000c00002120034003504d00565e563",
-            0,
-            1373,
+        name: "an error that is spent is answered by none",
+        packet: Plain(
+            "4500003a000100000101cdd5c0a8010ac63364070303e905000000004500001e000100003c1192e1c6336407c0a8010a00351388000a97c66869",
         ),
-        mtus: NARROW,
+        dropped: &[Cause::TtlSpent],
+        ..FROM_LAN
+    },
+    Row {
+        name: "a hop limit of 0 is spent",
+        packet: Plain(
+            "60000000000a110020010db8ffff000000c633640700000020010db8001234000000c00002120034003504d0000a05776869",
+        ),
         sent: &[(
             To::Access,
-            Long(
-                "6000000004d83a4020010db8001234000000c0000212003420010db8ffff000000c63364070000000200f52c0000058c600000000565113f20010db8ffff000000c633640700000020010db8001234000000c00002120034003504d00565e563",
-                0,
-                1184,
+            Plain(
+                "60000000003a3a4020010db8001234000000c0000212003420010db8ffff000000c63364070000000300fea60000000060000000000a110020010db8ffff000000c633640700000020010db8001234000000c00002120034003504d0000a05776869",
             ),
         )],
-        dropped: &[Cause::TooBig],
+        dropped: &[Cause::TtlSpent],
         ..FROM_ACCESS
     },
     Row {
-        name: "one of 1400 octets over IPv4 fits",
-        packet: Long(
-            "600000000564113f20010db8ffff000000c633640700000020010db8001234000000c00002120034003504d005645a66",
-            0,
-            1372,
+        name: "a spent packet from an unspecified source is answered by none",
+        packet: Plain(
+            "60000000000a11010000000000000000000000000000000020010db8001234000000c00002120034003504d0000a6e5a6869",
         ),
-        mtus: NARROW,
-        sent: &[(
-            To::Lan,
-            Long(
-                "45000578000740003e114b81c6336407c0a8010a003513880564ecb5",
-                0,
-                1372,
-            ),
-        )],
+        dropped: &[Cause::TtlSpent],
         ..FROM_ACCESS
     },
     Row {
-        name: "an error that is too big is answered by none",
-        packet: Long(
-            "60000000051d3a3f20010db8ffff000000c633640700000020010db8001234000000c000021200340104fb80000000006000000004ed113f20010db8001234000000c0000212003420010db8ffff000000c633640700000004d0003504ed87b9",
-            0,
-            1253,
-        ),
-        mtus: LOW,
-        dropped: &[Cause::TooBig],
-        ..FROM_ACCESS
+        name: "a spent packet from a group is answered by none",
+        packet: Plain("4500001e000100000111af8ee0000005c633640713880035000a79736869"),
+        dropped: &[Cause::TtlSpent],
+        ..FROM_LAN
     },
+];
+
+/// Errors about packets of the home, and of its hosts.
+const ERRORS: [Row; 8] = [
     Row {
         name: "time exceeded from the relay, about a packet of the host",
         packet: Plain(
@@ -768,6 +788,75 @@ const HOPS: [Row; 96] = [
         )],
         ..FROM_ACCESS
     },
+    Row {
+        name: "parameter problem: its pointer moves",
+        packet: Plain(
+            "4500003a0001000040018ed5c0a8010ac63364070c00d008100000004500001e0001000040118ee1c6336407c0a8010a00351388000a97c66869",
+        ),
+        sent: &[(
+            To::Access,
+            Plain(
+                "60000000003a3a3f20010db8001234000000c0000212003420010db8ffff000000c63364070000000400fd4e0000001860000000000a114020010db8ffff000000c633640700000020010db8001234000000c00002120034003504d0000a05776869",
+            ),
+        )],
+        ..FROM_LAN
+    },
+    Row {
+        name: "a pointer comes in",
+        packet: Plain(
+            "60000000003a3a3f20010db8ffff000000c633640700000020010db8001234000000c000021200340400fd600000000760000000000a113f20010db8001234000000c0000212003420010db8ffff000000c633640700000004d00035000a05776869",
+        ),
+        sent: &[(
+            To::Lan,
+            Plain(
+                "4500003a000700003e0190cfc6336407c0a8010a0c00d808080000004500001e000000003f118fe2c0a8010ac633640713880035000a97c66869",
+            ),
+        )],
+        ..FROM_ACCESS
+    },
+    Row {
+        name: "protocol unreachable is a parameter problem at the next header",
+        packet: Plain(
+            "450000380001000040018ed7c0a8010ac63364070302e92500000000450000280001000040068ee2c6336407c0a8010a0050138800000000",
+        ),
+        sent: &[(
+            To::Access,
+            Plain(
+                "6000000000383a3f20010db8001234000000c0000212003420010db8ffff000000c63364070000000401762700000006600000000014064020010db8ffff000000c633640700000020010db8001234000000c00002120034005004d000000000",
+            ),
+        )],
+        ..FROM_LAN
+    },
+    Row {
+        name: "an extension behind the embedded packet is cut off",
+        packet: Plain(
+            "450000440001000040018ecbc0a8010ac63364070b00dffb000800004500001e0001000040118ee1c6336407c0a8010a00351388000a97c6686900002000dfff00040101",
+        ),
+        sent: &[(
+            To::Access,
+            Plain(
+                "60000000003a3a3f20010db8001234000000c0000212003420010db8ffff000000c63364070000000300fe660000000060000000000a114020010db8ffff000000c633640700000020010db8001234000000c00002120034003504d0000a05776869",
+            ),
+        )],
+        ..FROM_LAN
+    },
+    Row {
+        name: "an error from a router of the home, about a packet to a host",
+        packet: Plain(
+            "4500003a0001000040018eddc0a80102c63364070301e907000000004500001e000100003c1192e1c6336407c0a8010a00351388000a97c66869",
+        ),
+        sent: &[(
+            To::Access,
+            Plain(
+                "60000000003a3a3f20010db8001234000000c0000212003420010db8ffff000000c63364070000000100006b0000000060000000000a113c20010db8ffff000000c633640700000020010db8001234000000c00002120034003504d0000a05776869",
+            ),
+        )],
+        ..FROM_LAN
+    },
+];
+
+/// MTUs that errors tell.
+const MTUS: [Row; 6] = [
     Row {
         name: "an MTU below 1280 is read as 1280",
         packet: Plain(
@@ -850,58 +939,10 @@ const HOPS: [Row; 96] = [
         )],
         ..FROM_LAN
     },
-    Row {
-        name: "parameter problem: its pointer moves",
-        packet: Plain(
-            "4500003a0001000040018ed5c0a8010ac63364070c00d008100000004500001e0001000040118ee1c6336407c0a8010a00351388000a97c66869",
-        ),
-        sent: &[(
-            To::Access,
-            Plain(
-                "60000000003a3a3f20010db8001234000000c0000212003420010db8ffff000000c63364070000000400fd4e0000001860000000000a114020010db8ffff000000c633640700000020010db8001234000000c00002120034003504d0000a05776869",
-            ),
-        )],
-        ..FROM_LAN
-    },
-    Row {
-        name: "a pointer comes in",
-        packet: Plain(
-            "60000000003a3a3f20010db8ffff000000c633640700000020010db8001234000000c000021200340400fd600000000760000000000a113f20010db8001234000000c0000212003420010db8ffff000000c633640700000004d00035000a05776869",
-        ),
-        sent: &[(
-            To::Lan,
-            Plain(
-                "4500003a000700003e0190cfc6336407c0a8010a0c00d808080000004500001e000000003f118fe2c0a8010ac633640713880035000a97c66869",
-            ),
-        )],
-        ..FROM_ACCESS
-    },
-    Row {
-        name: "protocol unreachable is a parameter problem at the next header",
-        packet: Plain(
-            "450000380001000040018ed7c0a8010ac63364070302e92500000000450000280001000040068ee2c6336407c0a8010a0050138800000000",
-        ),
-        sent: &[(
-            To::Access,
-            Plain(
-                "6000000000383a3f20010db8001234000000c0000212003420010db8ffff000000c63364070000000401762700000006600000000014064020010db8ffff000000c633640700000020010db8001234000000c00002120034005004d000000000",
-            ),
-        )],
-        ..FROM_LAN
-    },
-    Row {
-        name: "an extension behind the embedded packet is cut off",
-        packet: Plain(
-            "450000440001000040018ecbc0a8010ac63364070b00dffb000800004500001e0001000040118ee1c6336407c0a8010a00351388000a97c6686900002000dfff00040101",
-        ),
-        sent: &[(
-            To::Access,
-            Plain(
-                "60000000003a3a3f20010db8001234000000c0000212003420010db8ffff000000c63364070000000300fe660000000060000000000a114020010db8ffff000000c633640700000020010db8001234000000c00002120034003504d0000a05776869",
-            ),
-        )],
-        ..FROM_LAN
-    },
+];
+
+/// What errors embed.
+const EMBEDDED: [Row; 8] = [
     Row {
         name: "an embedded echo has the outside identifier",
         packet: Plain(
@@ -1011,6 +1052,10 @@ const HOPS: [Row; 96] = [
         )],
         ..FROM_ACCESS
     },
+];
+
+/// Packets that the edge turns, and those that it turned.
+const TURNED: [Row; 10] = [
     Row {
         name: "a packet without a sum is turned without one",
         packet: Plain("460000220001c00040113403c0a8010bc000021201010100138808d1000a00006869ee"),
@@ -1151,6 +1196,10 @@ const HOPS: [Row; 96] = [
         )],
         ..FROM_ITSELF
     },
+];
+
+/// Source routes and segments left.
+const ROUTES: [Row; 7] = [
     Row {
         name: "a source route of an error is answered by none",
         packet: Plain(
@@ -1222,13 +1271,6 @@ const HOPS: [Row; 96] = [
         ..FROM_ACCESS
     },
     Row {
-        name: "a first fragment of UDP without a sum is not turned",
-        packet: Plain("45000024000120004011d6a3c0000212c000021204d008d1003000000001020304050607"),
-        told: Told::Nothing,
-        dropped: &[Cause::NoUdpSum],
-        ..FROM_ITSELF
-    },
-    Row {
         name: "segments are left of a packet to another address: the answer comes from there",
         packet: Plain(
             "6000000000122b3f20010db8ffff000000c633640700000020010db8001235000000c000021200351100000200000000003504d4000a04726869",
@@ -1243,18 +1285,16 @@ const HOPS: [Row; 96] = [
         dropped: &[Cause::SourceRoute],
         ..FROM_ACCESS
     },
+];
+
+/// Packets with more than one cause, and one that is turned.
+const LEAST: [Row; 5] = [
     Row {
-        name: "an error from a router of the home, about a packet to a host",
-        packet: Plain(
-            "4500003a0001000040018eddc0a80102c63364070301e907000000004500001e000100003c1192e1c6336407c0a8010a00351388000a97c66869",
-        ),
-        sent: &[(
-            To::Access,
-            Plain(
-                "60000000003a3a3f20010db8001234000000c0000212003420010db8ffff000000c63364070000000100006b0000000060000000000a113c20010db8ffff000000c633640700000020010db8001234000000c00002120034003504d0000a05776869",
-            ),
-        )],
-        ..FROM_LAN
+        name: "a first fragment of UDP without a sum is not turned",
+        packet: Plain("45000024000120004011d6a3c0000212c000021204d008d1003000000001020304050607"),
+        told: Told::Nothing,
+        dropped: &[Cause::NoUdpSum],
+        ..FROM_ITSELF
     },
     Row {
         name: "cut short comes before a wrong header length",
@@ -1292,6 +1332,10 @@ const HOPS: [Row; 96] = [
         dropped: &[Cause::SourceRoute],
         ..FROM_ACCESS
     },
+];
+
+/// Refusals of the machine.
+const REFUSED: [Row; 14] = [
     Row {
         name: "no rule fits the edge, from the LAN",
         packet: Plain("4500001e0001000040118ee1c0a8010ac633640713880035000a97c66869"),
@@ -1507,8 +1551,8 @@ fn asked(alloc: Global, row: &Row, packet: &[u8]) -> Result<Option<Hop>, NoMemor
         lan: Addr4(0xc0a8_0101),
         mtus: row.mtus,
     };
-    match ask_of(alloc, row.way, packet) {
-        Ok(_) => Ok(Some(emit(alloc, &home, row.way, &answer, packet, 7)?)),
+    match emitted(alloc, &home, row.way, &answer, packet) {
+        Ok(hop) => Ok(Some(hop)),
         Err(Fault::NoMemory) => Err(NoMemory),
         Err(Fault::Drop(_)) => Ok(None),
     }
@@ -1539,13 +1583,16 @@ fn goes(alloc: Global, out: &Out, to: To, text: Text) -> Result<bool, NoMemory> 
 
 /// Whether these packets are sent, in this order.
 fn all_go(alloc: Global, outs: &[Out], sent: &[(To, Text)]) -> Result<bool, NoMemory> {
-    match (outs, sent) {
-        ([], []) => Ok(true),
-        ([out, outs @ ..], [(to, text), sent @ ..]) => {
-            Ok(goes(alloc, out, *to, *text)? && all_go(alloc, outs, sent)?)
-        }
-        _ => Ok(false),
+    if outs.len() != sent.len() {
+        return Ok(false);
     }
+    for i in 0..outs.len() {
+        let (to, text) = sent[i];
+        if !goes(alloc, &outs[i], to, text)? {
+            return Ok(false);
+        }
+    }
+    Ok(true)
 }
 
 /// Whether a row's hop is as it says.
@@ -1557,13 +1604,83 @@ fn is_as_told(alloc: Global, row: &Row) -> Result<bool, NoMemory> {
     Ok(dropped && all_go(alloc, hop.outs.as_slice(), row.sent)?)
 }
 
+/// The name of the first of these rows whose hop isn't as it says.
+fn first_wrong(alloc: Global, rows: &[Row]) -> Result<Option<&'static str>, NoMemory> {
+    for row in rows {
+        if !is_as_told(alloc, row)? {
+            return Ok(Some(row.name));
+        }
+    }
+    Ok(None)
+}
+
+fn try_whole(alloc: Global) -> Result<Option<&'static str>, NoMemory> {
+    first_wrong(alloc, &WHOLE)
+}
+
+fn try_long(alloc: Global) -> Result<Option<&'static str>, NoMemory> {
+    first_wrong(alloc, &LONG)
+}
+
+fn try_fragments_out(alloc: Global) -> Result<Option<&'static str>, NoMemory> {
+    first_wrong(alloc, &FRAGMENTS_OUT)
+}
+
+fn try_fragments_in(alloc: Global) -> Result<Option<&'static str>, NoMemory> {
+    first_wrong(alloc, &FRAGMENTS_IN)
+}
+
+fn try_spent(alloc: Global) -> Result<Option<&'static str>, NoMemory> {
+    first_wrong(alloc, &SPENT)
+}
+
+fn try_errors(alloc: Global) -> Result<Option<&'static str>, NoMemory> {
+    first_wrong(alloc, &ERRORS)
+}
+
+fn try_mtus(alloc: Global) -> Result<Option<&'static str>, NoMemory> {
+    first_wrong(alloc, &MTUS)
+}
+
+fn try_embedded(alloc: Global) -> Result<Option<&'static str>, NoMemory> {
+    first_wrong(alloc, &EMBEDDED)
+}
+
+fn try_turned(alloc: Global) -> Result<Option<&'static str>, NoMemory> {
+    first_wrong(alloc, &TURNED)
+}
+
+fn try_routes(alloc: Global) -> Result<Option<&'static str>, NoMemory> {
+    first_wrong(alloc, &ROUTES)
+}
+
+fn try_least(alloc: Global) -> Result<Option<&'static str>, NoMemory> {
+    first_wrong(alloc, &LEAST)
+}
+
+fn try_refused(alloc: Global) -> Result<Option<&'static str>, NoMemory> {
+    first_wrong(alloc, &REFUSED)
+}
+
 #[test]
-fn hops_are_those_that_were_computed_elsewhere(rt: HostRuntime) -> Result<(), Fail> {
+fn each_hop_is_as_it_was_computed_elsewhere(rt: HostRuntime) -> Result<(), Fail> {
     let alloc = rt.alloc();
-    for row in &HOPS {
-        let right = is_as_told(alloc, row)?;
-        let name = row.name;
-        assert!(rt; right, "{name}");
+    let wrong = [
+        try_whole(alloc)?,
+        try_long(alloc)?,
+        try_fragments_out(alloc)?,
+        try_fragments_in(alloc)?,
+        try_spent(alloc)?,
+        try_errors(alloc)?,
+        try_mtus(alloc)?,
+        try_embedded(alloc)?,
+        try_turned(alloc)?,
+        try_routes(alloc)?,
+        try_least(alloc)?,
+        try_refused(alloc)?,
+    ];
+    for name in wrong {
+        assert_eq!(rt; name, None);
     }
     Ok(())
 }
