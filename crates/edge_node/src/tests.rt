@@ -3,10 +3,12 @@
 ghost use Rattle.edge_node.specs.Hop.{IsAnswerAt};
 
 use super::*;
-use nat_model::Answer;
-use octets::{Addr4, Addr6, Cause, Fault, Mtus, NoMemory, Parcels};
+use nat_model::{Answer, Ask, Part};
+use octets::{Addr4, Addr6, Cause, Fault, Mtus, NoMemory, Parcels, Proto};
 use std::alloc::Global;
 use std::test::Fail;
+
+mod hops;
 
 /// The home's MAP address, and a host of the core under the default mapping rule.
 const EDGE: Addr6 = Addr6(0x2001_0db8_0012_3400_0000_c000_0212_0034);
@@ -221,12 +223,18 @@ fn home() -> EdgeParams {
     }
 }
 
-/// What the home's edge emits. Its packets without an identification of their own get 7.
-fn emitted(alloc: Global, way: Way, answer: &Answer, packet: &[u8]) -> Result<Hop, Fault>
+/// What an edge emits. Its packets without an identification of their own get 7.
+fn emitted(
+    alloc: Global,
+    edge: &EdgeParams,
+    way: Way,
+    answer: &Answer,
+    packet: &[u8],
+) -> Result<Hop, Fault>
     requires { IsAnswerAt way answer.now }
 {
     match ask_of(alloc, way, packet) {
-        Ok(_) => Ok(emit(alloc, &home(), way, answer, packet, 7)?),
+        Ok(_) => Ok(emit(alloc, edge, way, answer, packet, 7)?),
         Err(fault) => Err(fault),
     }
 }
@@ -277,7 +285,13 @@ fn packets_of_a_home_are_emitted(rt: HostRuntime) -> Result<(), Fail> {
             dst6: FAR,
             freed: Parcels::new(alloc),
         };
-        assert!(rt; sends(&emitted(alloc, Way::Lan, &answer, packet)?, to, expected));
+        assert!(rt;
+            sends(
+                &emitted(alloc, &home(), Way::Lan, &answer, packet)?,
+                to,
+                expected
+            )
+        );
     }
     for (packet, to, expected) in IN {
         let answer = Answer::In {
@@ -287,7 +301,13 @@ fn packets_of_a_home_are_emitted(rt: HostRuntime) -> Result<(), Fail> {
             peer: Addr4(0xc633_6407),
             freed: Parcels::new(alloc),
         };
-        assert!(rt; sends(&emitted(alloc, Way::Access, &answer, packet)?, to, expected));
+        assert!(rt;
+            sends(
+                &emitted(alloc, &home(), Way::Access, &answer, packet)?,
+                to,
+                expected
+            )
+        );
     }
     let turn = Answer::Turn {
         from: Addr4(0xc000_0212),
@@ -296,7 +316,7 @@ fn packets_of_a_home_are_emitted(rt: HostRuntime) -> Result<(), Fail> {
     };
     assert!(rt;
         sends(
-            &emitted(alloc, Way::Lan, &turn, BEFORE)?,
+            &emitted(alloc, &home(), Way::Lan, &turn, BEFORE)?,
             To::Itself,
             TURNED
         )
@@ -310,11 +330,43 @@ fn packets_of_a_home_are_emitted(rt: HostRuntime) -> Result<(), Fail> {
     };
     assert!(rt;
         sends(
-            &emitted(alloc, Way::Turned, &received, TURNED)?,
+            &emitted(alloc, &home(), Way::Turned, &received, TURNED)?,
             To::Lan,
             RECEIVED
         )
     );
+    Ok(())
+}
+
+/// A SYN from port 5000 of 192.168.1.10 to port 443 of 198.51.100.7.
+const SYN: &[u8] =
+    b"\x45\x00\x00\x28\x00\x01\x00\x00\x40\x06\x8e\xe2\xc0\xa8\x01\x0a\xc6\x33\x64\x07\x13\x88\x01\xbb\x00\x00\x00\x00\x00\x00\x00\x00\x50\x02\xff\xff\xae\xb2\x00\x00";
+
+/// Whether the ask is about a whole packet from 192.168.1.10:5000 to this port of 198.51.100.7, with these flags.
+fn is_of_flow(ask: &Ask, of: Proto, to: u16, with: u8) -> bool {
+    match ask {
+        Ask::Outward {
+            fault: false,
+            proto,
+            near,
+            far,
+            flags,
+            part: Part::Whole,
+        } => {
+            let from = near.addr == Addr4(0xc0a8_010a) && near.port == 5000;
+            let goes = far.addr == Addr4(0xc633_6407) && far.port == to;
+            *proto == of && from && goes && *flags == with
+        }
+        _ => false,
+    }
+}
+
+#[test]
+fn a_flow_is_asked_about_by_its_ends(rt: HostRuntime) -> Result<(), Fail> {
+    let alloc = rt.alloc();
+    let (datagram, _, _) = OUT[0];
+    assert!(rt; is_of_flow(&ask_of(alloc, Way::Lan, datagram)?, Proto::Udp, 53, 0));
+    assert!(rt; is_of_flow(&ask_of(alloc, Way::Lan, SYN)?, Proto::Tcp, 443, 2));
     Ok(())
 }
 

@@ -1,3 +1,4 @@
+mod Trials
 pub mod Gained
 pub mod Faults
 pub mod Later

@@ -4,6 +4,7 @@ ghost use Rattle.std.specs.Prelude.{IsTrue, None};
 ghost use Rattle.relay_node.specs.Asked.{IsTold};
 
 use super::*;
+use frag_table::FragKey;
 use map_rules::{Dmr, Rule};
 use octets::{Addr4, Addr6, Cause, Mtus, Prefix4, Prefix6};
 use packet_faults::{Hop, Out};
@@ -11,6 +12,8 @@ use rule_book::Book;
 use std::alloc::Global;
 use std::test::Fail;
 use transit::Exit;
+
+mod hops;
 
 /// The relay's address is 198.51.100.1.
 const PARAMS: RelayParams = RelayParams {
@@ -239,6 +242,18 @@ const HOPS: [(bool, &[u8], Option<(Exit, &[u8])>, Option<Cause>); 18] = [
         None,
     ),
 ];
+
+#[test]
+fn notes_stand_in_the_stripe_of_their_identification(rt: HostRuntime) {
+    let key = FragKey {
+        way: 3,
+        src: 0,
+        dst: 0,
+        proto: 17,
+        id: 35,
+    };
+    assert_eq!(rt; stripe_of(&key), 3);
+}
 
 #[test]
 fn hops_are_those_that_were_computed_elsewhere(rt: HostRuntime) -> Result<(), Fail> {
