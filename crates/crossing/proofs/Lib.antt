@@ -1,4 +1,10 @@
-pub mod Flow
+pub mod Heads
+pub mod Contents
 pub mod Sums
 pub mod Twice
+pub mod Segment
+pub mod Later
+pub mod Rows
+pub mod Query
+pub mod Uncut
 pub mod Trials
