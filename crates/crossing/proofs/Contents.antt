@@ -57,6 +57,7 @@ same_some a b e = cc
 pub record IsOneSegment (h : Head6) (payload : List ℕ) (proto : Proto) (content : Content6) : Type 0 where
   pub l4 : L4
   pub is : content ≡ Segment proto l4
+  pub l4_is : l4 ≡ l4_of proto payload
   pub carried : IsCarried6 (record { head = h; proto = proto; payload = payload })
 
 segment_is : (h : Head6) (payload : List ℕ) (proto other : Proto) (l4 : L4) → other ≡ proto → h.left ≡ None → IsSegment6 h payload other l4 → IsOneSegment h payload proto (Segment other l4)
@@ -65,6 +66,7 @@ segment_is h payload proto other l4 same left has =
     (record {
       l4 = l4;
       is = refl;
+      l4_is = has.header;
       carried = record { protocol = has.protocol; no_icmp = has.no_icmp; unrouted = left; transport = λ first bad. has.transport bad; summed = λ first. has.summed };
     })
 

@@ -105,27 +105,43 @@ reads at_relay q h payload octets form read =
     let head = same_headers6 q.head h octets (headers_of6 q.head (payload_of6 q.head octets) octets read.is) (headers_of6 h payload octets is) in
     record { head = head; payload_is = ap (λ (g : Head6). payload_of6 g octets) head ∙ sym is.payload_is }
 
--- What the second node reads of a packet that was written with this payload, and makes of it.
+-- on the access network stands a packet with this payload
+pub record IsLaid (t : Transfer) (over six : List ℕ) : Type 0 where
+  pub fits : length over ≤ 65515
+  pub upper : IsUpper (upper_protocol t.taken.head.proto)
+  pub written : six ≡ written6 (head_there t (length over)) over
+
+-- whoever takes it reads this header and payload
+pub laid_reads : (t : Transfer) (octets over six : List ℕ) (at_relay : Bool) (q : Packet6) → IsTaken t octets → IsLaid t over six → IsPacket6 at_relay q six → Reads q (head_there t (length over)) over six
+laid_reads t octets over six at_relay q taken laid is =
+    let h = t.taken.head in
+    let head6 = head_there t (length over) in
+    let low = low_offset h (payload_of4 h octets) octets taken.is.is taken.is.header in
+    let made = form t over taken.fits taken.six low laid.fits laid.upper in
+    let read = reads at_relay q head6 over (written6 head6 over) made (subst (λ (xs : List ℕ). IsPacket6 at_relay q xs) laid.written is) in
+    record { head = read.head; payload_is = ap (λ (xs : List ℕ). payload_of6 q.head xs) laid.written ∙ read.payload_is }
+
+pub laid_inside : (t : Transfer) (octets over six : List ℕ) (at_relay : Bool) (q : Packet6) → IsTaken t octets → IsLaid t over six → IsPacket6 at_relay q six → IsContent6 at_relay (head_there t (length over)) over q.content
+laid_inside t octets over six at_relay q taken laid is =
+    let read = laid_reads t octets over six at_relay q taken laid is in
+    let inside : IsContent6 at_relay q.head over q.content = subst (λ (xs : List ℕ). IsContent6 at_relay q.head xs q.content) read.payload_is is.content in
+    subst (λ (g : Head6). IsContent6 at_relay g over q.content) read.head inside
+
+-- What the second node reads of it, and makes of it.
 pub record Between (t : Transfer) (at_relay : Bool) (q : Packet6) (over four : List ℕ) : Type 0 where
   pub inside : IsContent6 at_relay (head_there t (length over)) over q.content
   pub back : translation64 t.mtus (head_there t (length over)) over t.four (t.number % 2 ^ 16) q.content ≡ Some four
   pub lasts : 3 ≤ t.taken.head.ttl
 
-pub between : (t : Transfer) (octets over six four : List ℕ) (at_relay : Bool) (q : Packet6) → IsTaken t octets → length over ≤ 65515
-    → IsUpper (upper_protocol t.taken.head.proto) → six ≡ written6 (head_there t (length over)) over → IsBack t at_relay q six four → Between t at_relay q over four
-between t octets over six four at_relay q taken fits upper written back =
-    let h = t.taken.head in
+pub between : (t : Transfer) (octets over six four : List ℕ) (at_relay : Bool) (q : Packet6) → IsTaken t octets → IsLaid t over six → IsBack t at_relay q six four → Between t at_relay q over four
+between t octets over six four at_relay q taken laid back =
     let id = t.number % 2 ^ 16 in
     let head6 = head_there t (length over) in
-    let low = low_offset h (payload_of4 h octets) octets taken.is.is taken.is.header in
-    let made = form t over taken.fits taken.six low fits upper in
-    let read = reads at_relay q head6 over (written6 head6 over) made (subst (λ (xs : List ℕ). IsPacket6 at_relay q xs) written back.is) in
-    let payload : payload_of6 q.head six ≡ over = ap (λ (xs : List ℕ). payload_of6 q.head xs) written ∙ read.payload_is in
-    let inside : IsContent6 at_relay q.head over q.content = subst (λ (xs : List ℕ). IsContent6 at_relay q.head xs q.content) payload back.is.content in
-    let makes : translation64 t.mtus q.head over t.four id q.content ≡ Some four = subst (λ (xs : List ℕ). translation64 t.mtus q.head xs t.four id q.content ≡ Some four) payload back.back in
+    let read = laid_reads t octets over six at_relay q taken laid back.is in
+    let makes : translation64 t.mtus q.head over t.four id q.content ≡ Some four = subst (λ (xs : List ℕ). translation64 t.mtus q.head xs t.four id q.content ≡ Some four) read.payload_is back.back in
     let lasts : 1 < head6.hop = subst (λ (g : Head6). 1 < g.hop) read.head back.lasts in
     record {
-      inside = subst (λ (g : Head6). IsContent6 at_relay g over q.content) read.head inside;
+      inside = laid_inside t octets over six at_relay q taken laid back.is;
       back = subst (λ (g : Head6). translation64 t.mtus g over t.four id q.content ≡ Some four) read.head makes;
       lasts = omega (arith, lasts);
     }

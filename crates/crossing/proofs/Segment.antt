@@ -31,14 +31,15 @@ use Rattle.packets.specs.declared.packet4.Content4.TheVariants.{Segment as Segme
 use Rattle.packets.specs.declared.packet6.Content6.{Content6}
 use Rattle.packets.specs.declared.packet6.Packet6.{Packet6}
 use Rattle.packets.specs.Packet4.{IsContent4, IsSegment4}
-use Rattle.packets.specs.Packet6.{IsContent6}
+use Rattle.packets.specs.Packet6.{IsContent6, IsPacket6}
+use Rattle.packets.specs.Asked.{flow_of6}
 use Rattle.transit.specs.Passage46.{translation46}
 use Rattle.transit.specs.Passage64.{translation64}
 use Rattle.transit.proofs.Form.{low_offset}
 use Rattle.crossing.specs.Named.{IsSegment, IsPayload, uncut}
-use Rattle.crossing.specs.Transfer.{Transfer, IsTaken, IsThere, IsBack, ComesOf, crossing_of, content_with}
-use Rattle.crossing.proofs.Heads.{payload_len_is, some_same, offset_there, head_there, head_back, between, named_uncut}
-use Rattle.crossing.proofs.Contents.{flow_number, one_segment}
+use Rattle.crossing.specs.Transfer.{Transfer, FitsPorts, IsTaken, IsThere, IsBack, ComesOf, crossing_of, content_with}
+use Rattle.crossing.proofs.Heads.{payload_len_is, some_same, offset_there, head_there, head_back, IsLaid, laid_inside, between, named_uncut}
+use Rattle.crossing.proofs.Contents.{IsFlowNumber, flow_number, one_segment}
 use Rattle.crossing.proofs.Sums.{written-twice, written_fits, udp_fits, udp_some}
 use Rattle.crossing.proofs.Twice.{with_l4-twice}
 
@@ -104,7 +105,6 @@ pub record Carries (t : Transfer) (proto : Proto) : Type 0 where
   pub first : t.taken.head.offset ≡ 0
   pub stands : header_octets proto ≤ length t.payload
   pub six : ArePorts t.six.ports
-  pub four : ArePorts t.four.ports
   pub short : length t.payload < 65536
 
 pub again_of : (t : Transfer) (proto : Proto) → Carries t proto → ReadAgain proto t.payload t.six.ports (sum_there t proto)
@@ -135,14 +135,14 @@ sum_back_some t proto udp = by proto udp _
     by : (p : Proto) → p ≡ Udp → (c : ℕ) → as_written p c ≢ 0
     by p is c = rw is (udp_some c)
 
-right_back : (t : Transfer) (proto : Proto) → Carries t proto → IsCarried6 (parts_back t proto) → has_no_sum (parts_there t proto) ≡ true
+right_back : (t : Transfer) (proto : Proto) → Carries t proto → ArePorts t.four.ports → IsCarried6 (parts_back t proto) → has_no_sum (parts_there t proto) ≡ true
     → IsRightOver (pseudo_header4 t.four.src t.four.dst 17 (length t.payload)) (payload_back t proto) 0
-right_back t proto is back lacking =
+right_back t proto is ports back lacking =
     let udp = lacking_is_udp proto (is_fragment t.taken.head) (l4_of proto t.payload).sum lacking in
     let number = flow_number t.taken.head.proto proto is.there.protocol is.there.no_icmp in
     let there = computed (parts_there t proto) t.six.src t.six.dst t.six.ports is.there is.first is.six lacking in
     let upper = number.udp udp in
-    rw upper at (right_over_ipv4 (parts_back t proto) t.four.src t.four.dst t.four.ports (length t.payload) 0 back (offset_there t.taken.head ∙ is.first) is.four is.short (rw upper there))
+    rw upper at (right_over_ipv4 (parts_back t proto) t.four.src t.four.dst t.four.ports (length t.payload) 0 back (offset_there t.taken.head ∙ is.first) ports is.short (rw upper there))
 
 pub length_there : (t : Transfer) (proto : Proto) → header_octets proto ≤ length t.payload → length (payload_there t proto) ≡ length t.payload
 length_there t proto stands = length-with_l4 proto t.payload t.six.ports (sum_there t proto) stands
@@ -152,8 +152,8 @@ length_back t proto stands =
     let there = length_there t proto stands in
     length-with_l4 proto (payload_there t proto) t.four.ports (sum_back t proto) (omega (arith, there, stands)) ∙ there
 
-pub segment_is : (t : Transfer) (proto : Proto) → Carries t proto → IsCarried6 (parts_back t proto) → IsSegment (crossing_of t) proto t.four.ports (payload_back t proto)
-segment_is t proto is back =
+pub segment_is : (t : Transfer) (proto : Proto) → Carries t proto → ArePorts t.four.ports → IsCarried6 (parts_back t proto) → IsSegment (crossing_of t) proto t.four.ports (payload_back t proto)
+segment_is t proto is ports back =
     let size = length_back t proto is.stands in
     record {
       sum = sum_back t proto;
@@ -161,17 +161,22 @@ segment_is t proto is back =
       changed = sum_back_is t proto is;
       missing = λ lacking. (
         sum_back_some t proto (lacking_is_udp proto (is_fragment t.taken.head) (l4_of proto t.payload).sum lacking),
-        subst (λ (n : ℕ). IsRightOver (pseudo_header4 t.four.src t.four.dst 17 n) (payload_back t proto) 0) (sym size) (right_back t proto is back lacking),
+        subst (λ (n : ℕ). IsRightOver (pseudo_header4 t.four.src t.four.dst 17 n) (payload_back t proto) 0) (sym size) (right_back t proto is ports back lacking),
       );
     }
 
 -- ---- whatever is read on the access network
 
-pub segment_crosses : (t : Transfer) (proto : Proto) (l4 : L4) (octets six four : List ℕ) (at_relay : Bool) (q : Packet6) → t.taken.content ≡ Segment4 proto l4
-    → IsTaken t octets → IsThere t six → IsBack t at_relay q six four → ComesOf (crossing_of t) uncut four
-segment_crosses t proto l4 octets six four at_relay q e taken there back =
+-- a transport header was taken, and is on the access network
+pub record IsSegmentLaid (t : Transfer) (proto : Proto) (six : List ℕ) : Type 0 where
+  pub carries : Carries t proto
+  pub size : length (payload_there t proto) ≡ t.taken.head.total - t.taken.head.head_len
+  pub number : IsFlowNumber t.taken.head.proto proto
+  pub laid : IsLaid t (payload_there t proto) six
+
+pub segment_laid : (t : Transfer) (proto : Proto) (l4 : L4) (octets six : List ℕ) → t.taken.content ≡ Segment4 proto l4 → IsTaken t octets → IsThere t six → IsSegmentLaid t proto six
+segment_laid t proto l4 octets six e taken there =
     let h = t.taken.head in
-    let id = t.number % 2 ^ 16 in
     let found : IsSegment4 h (payload_of4 h octets) proto l4 = subst (λ (c : Content4). IsContent4 h (payload_of4 h octets) c) e taken.is.content in
     let has : IsSegment4 h t.payload proto l4 = subst (λ (xs : List ℕ). IsSegment4 h xs proto l4) (sym taken.payload) found in
     let number = flow_number h.proto proto has.protocol has.no_icmp in
@@ -179,26 +184,58 @@ segment_crosses t proto l4 octets six four at_relay q e taken there back =
     let declared : length t.payload ≡ h.total - h.head_len = ap (λ (xs : List ℕ). length xs) taken.payload ∙ payload_len_is h (payload_of4 h octets) octets taken.is.is in
     let over = payload_there t proto in
     let size : length over ≡ h.total - h.head_len = length_there t proto stands ∙ declared in
-    let fits : length over ≤ 65515 = omega (arith, size, taken.fits.total, taken.is.is.head_fits) in
-    let written : six ≡ written6 (head_there t (length over)) over = sym (some_same (packet46 (parts_there t proto) t.six.src t.six.dst (Some t.six.ports)) six (subst (λ (c : Content4). translation46 t.mtus h t.payload t.six c ≡ Some six) e there)) ∙ ap (λ (n : ℕ). written6 (head_there t n) over) (sym size) in
-    let read = between t octets over six four at_relay q taken fits number.upper written back in
-    let one = one_segment at_relay (head_there t (length over)) over proto q.content number.six has.no_icmp refl (offset_there h ∙ has.first) read.inside in
-    let carries : Carries t proto = record {
-      there = record { protocol = has.protocol; no_icmp = has.no_icmp; unrouted = taken.is.unrouted; transport = λ first bad. has.transport bad; summed = λ first. has.summed };
-      first = has.first;
-      stands = stands;
-      six = taken.six.ports;
-      four = taken.four;
-      short = omega (arith, declared, taken.fits.total);
-    } in
+    record {
+      carries = record {
+        there = record { protocol = has.protocol; no_icmp = has.no_icmp; unrouted = taken.is.unrouted; transport = λ first bad. has.transport bad; summed = λ first. has.summed };
+        first = has.first;
+        stands = stands;
+        six = taken.six.ports;
+        short = omega (arith, declared, taken.fits.total);
+      };
+      size = size;
+      number = number;
+      laid = record {
+        fits = omega (arith, size, taken.fits.total, taken.is.is.head_fits);
+        upper = number.upper;
+        written = sym (some_same (packet46 (parts_there t proto) t.six.src t.six.dst (Some t.six.ports)) six (subst (λ (c : Content4). translation46 t.mtus h t.payload t.six c ≡ Some six) e there)) ∙ ap (λ (n : ℕ). written6 (head_there t n) over) (sym size);
+      };
+    }
+
+-- its flow is read there
+pub record ReadsFlow (q : Content6) (proto : Proto) (ports : Ports) : Type 0 where
+  pub fault : (flow_of6 q).fault ≡ false
+  pub proto_is : (flow_of6 q).proto ≡ proto
+  pub ports_are : (flow_of6 q).ports ≡ ports
+
+pub segment_flow : (t : Transfer) (proto : Proto) (l4 : L4) (octets six : List ℕ) (at_relay : Bool) (q : Packet6) → t.taken.content ≡ Segment4 proto l4
+    → IsTaken t octets → IsThere t six → IsPacket6 at_relay q six → ReadsFlow q.content proto t.six.ports
+segment_flow t proto l4 octets six at_relay q e taken there is =
+    let h = t.taken.head in
+    let laid = segment_laid t proto l4 octets six e taken there in
+    let over = payload_there t proto in
+    let one = one_segment at_relay (head_there t (length over)) over proto q.content laid.number.six laid.carries.there.no_icmp refl (offset_there h ∙ laid.carries.first) (laid_inside t octets over six at_relay q taken laid.laid is) in
+    subst (λ (c : Content6). ReadsFlow c proto t.six.ports) (sym one.is)
+    (record { fault = refl; proto_is = refl; ports_are = ap (λ (l : L4). l.ports) one.l4_is ∙ (again_of t proto laid.carries).ports_are })
+
+pub segment_crosses : (t : Transfer) (proto : Proto) (l4 : L4) (octets six four : List ℕ) (at_relay : Bool) (q : Packet6) → t.taken.content ≡ Segment4 proto l4
+    → IsTaken t octets → IsThere t six → IsBack t at_relay q six four → ComesOf (crossing_of t) uncut four
+segment_crosses t proto l4 octets six four at_relay q e taken there back =
+    let h = t.taken.head in
+    let id = t.number % 2 ^ 16 in
+    let laid = segment_laid t proto l4 octets six e taken there in
+    let over = payload_there t proto in
+    let read = between t octets over six four at_relay q taken laid.laid back in
+    let one = one_segment at_relay (head_there t (length over)) over proto q.content laid.number.six laid.carries.there.no_icmp refl (offset_there h ∙ laid.carries.first) read.inside in
+    let carried : IsCarried6 (parts_back t proto) = subst (λ (n : ℕ). IsCarried6 (record { head = head_there t n; proto = proto; payload = over })) laid.size one.carried in
+    let ports : ArePorts t.four.ports = subst (λ (c : Content4). FitsPorts c t.four.ports) e back.ports in
     let new = payload_back t proto in
-    let size_back : length new ≡ h.total - h.head_len = length_back t proto stands ∙ declared in
-    let makes : translation64 t.mtus (translated46 h t.six.src t.six.dst) over t.four id q.content ≡ Some four = subst (λ (n : ℕ). translation64 t.mtus (head_there t n) over t.four id q.content ≡ Some four) size read.back in
+    let size : length new ≡ h.total - h.head_len = length_back t proto laid.carries.stands ∙ sym (length_there t proto laid.carries.stands) ∙ laid.size in
+    let makes : translation64 t.mtus (translated46 h t.six.src t.six.dst) over t.four id q.content ≡ Some four = subst (λ (n : ℕ). translation64 t.mtus (head_there t n) over t.four id q.content ≡ Some four) laid.size read.back in
     let comes : packet64 (parts_back t proto) t.four.src t.four.dst (Some t.four.ports) id ≡ four = some_same (packet64 (parts_back t proto) t.four.src t.four.dst (Some t.four.ports) id) four (subst (λ (c : Content6). translation64 t.mtus (translated46 h t.six.src t.six.dst) over t.four id c ≡ Some four) one.is makes) in
     record {
       whole = new;
       sent = record { head = head_back t (length new); payload = new; octets = written4 (head_back t (length new)) new };
-      named = named_uncut t new taken.fits read.lasts (omega (arith, size_back, taken.fits.total, taken.is.is.head_fits)) number.back
-          (subst (λ (c : Content4). IsPayload (crossing_of t) c (content_with t.four c) new) (sym e) (segment_is t proto carries (subst (λ (n : ℕ). IsCarried6 (record { head = head_there t n; proto = proto; payload = over })) size one.carried)));
-      octets_are = sym comes ∙ ap (λ (n : ℕ). written4 (head_back t n) new) (sym size_back);
+      named = named_uncut t new taken.fits read.lasts (omega (arith, size, taken.fits.total, taken.is.is.head_fits)) laid.number.back
+          (subst (λ (c : Content4). IsPayload (crossing_of t) c (content_with t.four c) new) (sym e) (segment_is t proto laid.carries ports carried));
+      octets_are = sym comes ∙ ap (λ (n : ℕ). written4 (head_back t n) new) (sym size);
     }

@@ -62,13 +62,17 @@ pub record FitsEnds (ends : Ends Addr6) : Type 0 where
   pub dst : ends.dst.0 < 2 ^ 128
   pub ports : ArePorts ends.ports
 
+-- a later fragment has no ports
+abbrev pub FitsPorts : Content4 → Ports → Type 0
+FitsPorts (Later proto) ports = Unit {0}
+FitsPorts _ ports = ArePorts ports
+
 -- the octets are the packet that was taken, and numbers fit their fields
 pub record IsTaken (t : Transfer) (octets : List ℕ) : Type 0 where
   pub is : IsPacket4 t.taken octets
   pub payload : t.payload ≡ payload_of4 t.taken.head octets
   pub fits : FitsHead t.taken.head
   pub six : FitsEnds t.six
-  pub four : ArePorts t.four.ports
 
 -- the first node translates it to these octets
 abbrev pub IsThere : Transfer → List ℕ → Type 0
@@ -79,6 +83,7 @@ IsThere t six = translation46 t.mtus t.taken.head t.payload t.six t.taken.conten
 pub record IsBack (t : Transfer) (at_relay : Bool) (q : Packet6) (six four : List ℕ) : Type 0 where
   pub is : IsPacket6 at_relay q six
   pub lasts : 1 < q.head.hop
+  pub ports : FitsPorts t.taken.content t.four.ports
   pub back : translation64 t.mtus q.head (payload_of6 q.head six) t.four (t.number % 2 ^ 16) q.content ≡ Some four
 
 -- the crossing, and what comes of it where nothing but the named header changes differs

@@ -85,7 +85,6 @@ carries e t octets number is fit = record {
   first = (whole_parts t.head.mf t.head.offset is.carried.whole).1;
   stands = stands_of e t octets is;
   six = (fit.port, fit.far_port);
-  four = (fit.port, fit.far_port);
   short = omega (arith, declared e t octets is, fit.total);
 }
 
@@ -181,7 +180,7 @@ is_crossed e t octets number access core is fit out back =
         by_answer = by_answer e t octets is;
         whole = new;
         sent = record { head = head_back w (length new); payload = new; octets = written4 (head_back w (length new)) new };
-        named = named_uncut w new (record { tos = fit.class; total = fit.total; id = fit.id }) is.carried.lasts (omega (arith, size, fit.total, is.sound.is.head_fits)) flow.back (segment_is w t.proto carry (carried_is e t octets is fit));
+        named = named_uncut w new (record { tos = fit.class; total = fit.total; id = fit.id }) is.carried.lasts (omega (arith, size, fit.total, is.sound.is.head_fits)) flow.back (segment_is w t.proto carry (fit.port, fit.far_port) (carried_is e t octets is fit));
         arrives = back ∙ ap (λ (n : ℕ). written4 (head_back w n) new) (sym size);
       };
     }

@@ -1,0 +1,2 @@
+//! The trace of a replay.
+#![tactic(auto)]
