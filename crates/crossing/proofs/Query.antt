@@ -148,7 +148,7 @@ query_flow t m row octets six at_relay q e taken there is =
     let one = query_read t m row octets six at_relay q taken (query_laid t m row octets six e taken there) is in
     let port : one.message.rest / 2 ^ 16 ≡ t.six.ports.src = ap (λ (n : ℕ). n / 2 ^ 16) one.read.rest ∙ identifier t.six.ports.src m.rest in
     subst (λ (c : Content6). ReadsFlow c Icmp (record { src = t.six.ports.src; dst = t.six.ports.src })) (sym one.is)
-    (record { fault = refl; proto_is = refl; ports_are = ap (λ (n : ℕ). both_ports n) port })
+    (record { fault = refl; proto_is = refl; ports_are = ap (λ (n : ℕ). both_ports n) port; no_later = λ other later. cc })
 
 pub query_crosses : (t : Transfer) (m : Icmp4) (row : Row) (octets six four : List ℕ) (at_relay : Bool) (q : Packet6) → t.taken.content ≡ Query4 m row
     → IsTaken t octets → IsThere t six → IsBack t at_relay q six four → ComesOf (crossing_of t) uncut four

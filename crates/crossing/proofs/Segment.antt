@@ -29,6 +29,7 @@ use Rattle.xlat64.proofs.RightSums.{changed as right_over_ipv4}
 use Rattle.packets.specs.declared.packet4.Content4.{Content4}
 use Rattle.packets.specs.declared.packet4.Content4.TheVariants.{Segment as Segment4}
 use Rattle.packets.specs.declared.packet6.Content6.{Content6}
+use Rattle.packets.specs.declared.packet6.Content6.TheVariants.{Segment as Segment6, Later as Later6}
 use Rattle.packets.specs.declared.packet6.Packet6.{Packet6}
 use Rattle.packets.specs.Packet4.{IsContent4, IsSegment4}
 use Rattle.packets.specs.Packet6.{IsContent6, IsPacket6}
@@ -206,6 +207,7 @@ pub record ReadsFlow (q : Content6) (proto : Proto) (ports : Ports) : Type 0 whe
   pub fault : (flow_of6 q).fault ≡ false
   pub proto_is : (flow_of6 q).proto ≡ proto
   pub ports_are : (flow_of6 q).ports ≡ ports
+  pub no_later : (other : Proto) → q ≡ Later6 other → ⊥
 
 pub segment_flow : (t : Transfer) (proto : Proto) (l4 : L4) (octets six : List ℕ) (at_relay : Bool) (q : Packet6) → t.taken.content ≡ Segment4 proto l4
     → IsTaken t octets → IsThere t six → IsPacket6 at_relay q six → ReadsFlow q.content proto t.six.ports
@@ -215,7 +217,7 @@ segment_flow t proto l4 octets six at_relay q e taken there is =
     let over = payload_there t proto in
     let one = one_segment at_relay (head_there t (length over)) over proto q.content laid.number.six laid.carries.there.no_icmp refl (offset_there h ∙ laid.carries.first) (laid_inside t octets over six at_relay q taken laid.laid is) in
     subst (λ (c : Content6). ReadsFlow c proto t.six.ports) (sym one.is)
-    (record { fault = refl; proto_is = refl; ports_are = ap (λ (l : L4). l.ports) one.l4_is ∙ (again_of t proto laid.carries).ports_are })
+    (record { fault = refl; proto_is = refl; ports_are = ap (λ (l : L4). l.ports) one.l4_is ∙ (again_of t proto laid.carries).ports_are; no_later = λ other later. cc })
 
 pub segment_crosses : (t : Transfer) (proto : Proto) (l4 : L4) (octets six four : List ℕ) (at_relay : Bool) (q : Packet6) → t.taken.content ≡ Segment4 proto l4
     → IsTaken t octets → IsThere t six → IsBack t at_relay q six four → ComesOf (crossing_of t) uncut four
