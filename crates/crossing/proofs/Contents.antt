@@ -11,7 +11,6 @@ use Rattle.l4_headers.specs.declared.ports.L4.{L4}
 use Rattle.l4_headers.specs.Transport.{l4_of}
 use Rattle.xlat46.specs.Head.{upper_protocol}
 use Rattle.xlat64.specs.Head.{protocol_of}
-use Rattle.xlat64.specs.Whole.{IsCarried6}
 use Rattle.packets.specs.declared.packet6.Content6.{Content6}
 use Rattle.packets.specs.declared.packet6.Content6.TheVariants.{Segment, Later, Query, Error}
 use Rattle.packets.specs.Packet6.{IsContent6, IsSegment6}
@@ -54,28 +53,20 @@ flow_number n proto is flows = elim (cases_eq n 6) [
 same_some : (a b : Proto) → ◌≡◌ {A = Option Proto} (Some a) (Some b) → a ≡ b
 same_some a b e = cc
 
-pub record IsOneSegment (h : Head6) (payload : List ℕ) (proto : Proto) (content : Content6) : Type 0 where
+pub record IsOneSegment (payload : List ℕ) (proto : Proto) (content : Content6) : Type 0 where
   pub l4 : L4
   pub is : content ≡ Segment proto l4
   pub l4_is : l4 ≡ l4_of proto payload
-  pub carried : IsCarried6 (record { head = h; proto = proto; payload = payload })
 
-segment_is : (h : Head6) (payload : List ℕ) (proto other : Proto) (l4 : L4) → other ≡ proto → h.left ≡ None → IsSegment6 h payload other l4 → IsOneSegment h payload proto (Segment other l4)
-segment_is h payload proto other l4 same left has =
-    subst (λ (p : Proto). IsOneSegment h payload p (Segment other l4)) same
-    (record {
-      l4 = l4;
-      is = refl;
-      l4_is = has.header;
-      carried = record { protocol = has.protocol; no_icmp = has.no_icmp; unrouted = left; transport = λ first bad. has.transport bad; summed = λ first. has.summed };
-    })
+segment_is : (h : Head6) (payload : List ℕ) (proto other : Proto) (l4 : L4) → other ≡ proto → IsSegment6 h payload other l4 → IsOneSegment payload proto (Segment other l4)
+segment_is h payload proto other l4 same has = subst (λ (p : Proto). IsOneSegment payload p (Segment other l4)) same (record { l4 = l4; is = refl; l4_is = has.header })
 
-pub one_segment : (at_relay : Bool) (h : Head6) (payload : List ℕ) (proto : Proto) (content : Content6) → proto6 h.upper ≡ Some proto → proto ≢ Icmp → h.left ≡ None → fragment_offset h.frag ≡ 0
-    → IsContent6 at_relay h payload content → IsOneSegment h payload proto content
-one_segment at_relay h payload proto (Segment other l4) number flows left first has = segment_is h payload proto other l4 (same_some other proto (sym has.protocol ∙ number)) left has
-one_segment at_relay h payload proto (Later other) number flows left first has = absurd (has.later first)
-one_segment at_relay h payload proto (Query m row) number flows left first has = absurd (flows (icmp_alone h.upper proto has.0.protocol number))
-one_segment at_relay h payload proto (Error m row inner) number flows left first has = absurd (flows (icmp_alone h.upper proto has.message.protocol number))
+pub one_segment : (at_relay : Bool) (h : Head6) (payload : List ℕ) (proto : Proto) (content : Content6) → proto6 h.upper ≡ Some proto → proto ≢ Icmp → fragment_offset h.frag ≡ 0
+    → IsContent6 at_relay h payload content → IsOneSegment payload proto content
+one_segment at_relay h payload proto (Segment other l4) number flows first has = segment_is h payload proto other l4 (same_some other proto (sym has.protocol ∙ number)) has
+one_segment at_relay h payload proto (Later other) number flows first has = absurd (has.later first)
+one_segment at_relay h payload proto (Query m row) number flows first has = absurd (flows (icmp_alone h.upper proto has.0.protocol number))
+one_segment at_relay h payload proto (Error m row inner) number flows first has = absurd (flows (icmp_alone h.upper proto has.message.protocol number))
 
 pub one_later : (at_relay : Bool) (h : Head6) (payload : List ℕ) (proto : Proto) (content : Content6) → proto6 h.upper ≡ Some proto → proto ≢ Icmp → fragment_offset h.frag ≢ 0
     → IsContent6 at_relay h payload content → content ≡ Later proto

@@ -16,10 +16,10 @@ use Rattle.ip6_packet.specs.Grammar.{payload_of6}
 use Rattle.ip6_packet.specs.Written.{written6}
 use Rattle.l4_headers.specs.declared.ports.Ports.{Ports}
 use Rattle.l4_headers.specs.declared.ports.L4.{L4}
-use Rattle.l4_headers.specs.Transport.{header_octets, l4_of, with_l4}
+use Rattle.l4_headers.specs.Transport.{header_octets, IsBadTransport, l4_of, with_l4}
 use Rattle.l4_headers.specs.PseudoHeader.{pseudo_header4, pseudo_header6, IsRightOver}
 use Rattle.l4_headers.specs.Readdressed.{as_written, port_words, readdressed_sum, computed_udp_sum}
-use Rattle.l4_headers.proofs.Laws.{length-with_l4, l4_of-with_tcp, l4_of-with_udp}
+use Rattle.l4_headers.proofs.Laws.{length-with_l4, bad_with_l4, l4_of-with_tcp, l4_of-with_udp}
 use Rattle.l4_headers.proofs.RightSums.{header_stands}
 use Rattle.xlat46.specs.Head.{is_fragment, translated as translated46}
 use Rattle.xlat46.specs.Whole.{Parts4, IsCarried4, ArePorts, lacks_sum, has_no_sum, sum46, payload46, packet46}
@@ -39,7 +39,7 @@ use Rattle.transit.specs.Passage64.{translation64}
 use Rattle.transit.proofs.Form.{low_offset}
 use Rattle.crossing.specs.Named.{IsSegment, IsPayload, uncut}
 use Rattle.crossing.specs.Transfer.{Transfer, FitsPorts, IsTaken, IsThere, IsBack, ComesOf, crossing_of, content_with}
-use Rattle.crossing.proofs.Heads.{payload_len_is, some_same, offset_there, head_there, head_back, IsLaid, laid_inside, between, named_uncut}
+use Rattle.crossing.proofs.Heads.{payload_len_is, some_same, offset_there, more_there, head_there, head_back, IsLaid, laid_inside, between, named_uncut}
 use Rattle.crossing.proofs.Contents.{IsFlowNumber, flow_number, one_segment}
 use Rattle.crossing.proofs.Sums.{written-twice, written_fits, udp_fits, udp_some}
 use Rattle.crossing.proofs.Twice.{with_l4-twice}
@@ -111,6 +111,26 @@ pub record Carries (t : Transfer) (proto : Proto) : Type 0 where
 pub again_of : (t : Transfer) (proto : Proto) → Carries t proto → ReadAgain proto t.payload t.six.ports (sum_there t proto)
 again_of t proto is = read_again proto t.payload t.six.ports (sum_there t proto) is.there.no_icmp is.stands is.six.0 is.six.1 (sum_fits (parts_there t proto) t.six.src t.six.dst t.six.ports)
 
+udp_word : (proto : Proto) (payload : List ℕ) (sum : ℕ) → proto ≡ Udp → (l4_of proto payload).sum ≡ sum → word payload 6 ≡ sum
+udp_word proto payload sum udp is = rw udp at is
+
+-- what the second node makes of it by parts is carried
+pub carried_back : (t : Transfer) (proto : Proto) → Carries t proto → IsCarried6 (parts_back t proto)
+carried_back t proto is =
+    let h = t.taken.head in
+    let over = payload_there t proto in
+    let sum = sum_there t proto in
+    let number = flow_number h.proto proto is.there.protocol is.there.no_icmp in
+    let good : IsBadTransport proto t.payload (not h.mf) → ⊥ = is.there.transport is.first in
+    let fine : IsBadTransport proto over (not h.mf) → ⊥ = λ bad. good ((bad_with_l4 proto t.payload t.six.ports sum (not h.mf) is.stands).0 bad) in
+    record {
+      protocol = number.six;
+      no_icmp = is.there.no_icmp;
+      unrouted = refl;
+      transport = λ first. subst (λ (b : Bool). IsBadTransport proto over (not b) → ⊥) (sym (more_there h)) fine;
+      summed = λ first udp none. udp_has_sum (parts_there t proto) t.six.src t.six.dst t.six.ports udp (sym (udp_word proto over sum udp (again_of t proto is).sum_is) ∙ none);
+    }
+
 sum_back_is : (t : Transfer) (proto : Proto) → Carries t proto → has_no_sum (parts_there t proto) ≡ false
     → sum_back t proto ≡ readdressed_sum proto (l4_of proto t.payload) (words (in_quad t.taken.head.src.0) + words (in_quad t.taken.head.dst.0)) (words (in_quad t.four.src.0) + words (in_quad t.four.dst.0)) t.four.ports
 sum_back_is t proto is summed =
@@ -136,14 +156,14 @@ sum_back_some t proto udp = by proto udp _
     by : (p : Proto) → p ≡ Udp → (c : ℕ) → as_written p c ≢ 0
     by p is c = rw is (udp_some c)
 
-right_back : (t : Transfer) (proto : Proto) → Carries t proto → ArePorts t.four.ports → IsCarried6 (parts_back t proto) → has_no_sum (parts_there t proto) ≡ true
+right_back : (t : Transfer) (proto : Proto) → Carries t proto → ArePorts t.four.ports → has_no_sum (parts_there t proto) ≡ true
     → IsRightOver (pseudo_header4 t.four.src t.four.dst 17 (length t.payload)) (payload_back t proto) 0
-right_back t proto is ports back lacking =
+right_back t proto is ports lacking =
     let udp = lacking_is_udp proto (is_fragment t.taken.head) (l4_of proto t.payload).sum lacking in
     let number = flow_number t.taken.head.proto proto is.there.protocol is.there.no_icmp in
     let there = computed (parts_there t proto) t.six.src t.six.dst t.six.ports is.there is.first is.six lacking in
     let upper = number.udp udp in
-    rw upper at (right_over_ipv4 (parts_back t proto) t.four.src t.four.dst t.four.ports (length t.payload) 0 back (offset_there t.taken.head ∙ is.first) ports is.short (rw upper there))
+    rw upper at (right_over_ipv4 (parts_back t proto) t.four.src t.four.dst t.four.ports (length t.payload) 0 (carried_back t proto is) (offset_there t.taken.head ∙ is.first) ports is.short (rw upper there))
 
 pub length_there : (t : Transfer) (proto : Proto) → header_octets proto ≤ length t.payload → length (payload_there t proto) ≡ length t.payload
 length_there t proto stands = length-with_l4 proto t.payload t.six.ports (sum_there t proto) stands
@@ -153,8 +173,8 @@ length_back t proto stands =
     let there = length_there t proto stands in
     length-with_l4 proto (payload_there t proto) t.four.ports (sum_back t proto) (omega (arith, there, stands)) ∙ there
 
-pub segment_is : (t : Transfer) (proto : Proto) → Carries t proto → ArePorts t.four.ports → IsCarried6 (parts_back t proto) → IsSegment (crossing_of t) proto t.four.ports (payload_back t proto)
-segment_is t proto is ports back =
+pub segment_is : (t : Transfer) (proto : Proto) → Carries t proto → ArePorts t.four.ports → IsSegment (crossing_of t) proto t.four.ports (payload_back t proto)
+segment_is t proto is ports =
     let size = length_back t proto is.stands in
     record {
       sum = sum_back t proto;
@@ -162,7 +182,7 @@ segment_is t proto is ports back =
       changed = sum_back_is t proto is;
       missing = λ lacking. (
         sum_back_some t proto (lacking_is_udp proto (is_fragment t.taken.head) (l4_of proto t.payload).sum lacking),
-        subst (λ (n : ℕ). IsRightOver (pseudo_header4 t.four.src t.four.dst 17 n) (payload_back t proto) 0) (sym size) (right_back t proto is ports back lacking),
+        subst (λ (n : ℕ). IsRightOver (pseudo_header4 t.four.src t.four.dst 17 n) (payload_back t proto) 0) (sym size) (right_back t proto is ports lacking),
       );
     }
 
@@ -215,7 +235,7 @@ segment_flow t proto l4 octets six at_relay q e taken there is =
     let h = t.taken.head in
     let laid = segment_laid t proto l4 octets six e taken there in
     let over = payload_there t proto in
-    let one = one_segment at_relay (head_there t (length over)) over proto q.content laid.number.six laid.carries.there.no_icmp refl (offset_there h ∙ laid.carries.first) (laid_inside t octets over six at_relay q taken laid.laid is) in
+    let one = one_segment at_relay (head_there t (length over)) over proto q.content laid.number.six laid.carries.there.no_icmp (offset_there h ∙ laid.carries.first) (laid_inside t octets over six at_relay q taken laid.laid is) in
     subst (λ (c : Content6). ReadsFlow c proto t.six.ports) (sym one.is)
     (record { fault = refl; proto_is = refl; ports_are = ap (λ (l : L4). l.ports) one.l4_is ∙ (again_of t proto laid.carries).ports_are; no_later = λ other later. cc })
 
@@ -227,8 +247,7 @@ segment_crosses t proto l4 octets six four at_relay q e taken there back =
     let laid = segment_laid t proto l4 octets six e taken there in
     let over = payload_there t proto in
     let read = between t octets over six four at_relay q taken laid.laid back in
-    let one = one_segment at_relay (head_there t (length over)) over proto q.content laid.number.six laid.carries.there.no_icmp refl (offset_there h ∙ laid.carries.first) read.inside in
-    let carried : IsCarried6 (parts_back t proto) = subst (λ (n : ℕ). IsCarried6 (record { head = head_there t n; proto = proto; payload = over })) laid.size one.carried in
+    let one = one_segment at_relay (head_there t (length over)) over proto q.content laid.number.six laid.carries.there.no_icmp (offset_there h ∙ laid.carries.first) read.inside in
     let ports : ArePorts t.four.ports = subst (λ (c : Content4). FitsPorts c t.four.ports) e back.ports in
     let new = payload_back t proto in
     let size : length new ≡ h.total - h.head_len = length_back t proto laid.carries.stands ∙ sym (length_there t proto laid.carries.stands) ∙ laid.size in
@@ -238,6 +257,6 @@ segment_crosses t proto l4 octets six four at_relay q e taken there back =
       whole = new;
       sent = record { head = head_back t (length new); payload = new; octets = written4 (head_back t (length new)) new };
       named = named_uncut t new taken.fits read.lasts (omega (arith, size, taken.fits.total, taken.is.is.head_fits)) laid.number.back
-          (subst (λ (c : Content4). IsPayload (crossing_of t) c (content_with t.four c) new) (sym e) (segment_is t proto laid.carries ports carried));
+          (subst (λ (c : Content4). IsPayload (crossing_of t) c (content_with t.four c) new) (sym e) (segment_is t proto laid.carries ports));
       octets_are = sym comes ∙ ap (λ (n : ℕ). written4 (head_back t n) new) (sym size);
     }

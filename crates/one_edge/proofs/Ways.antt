@@ -32,7 +32,7 @@ use Rattle.crossing.specs.Nat44.{with_source, with_ports, nat44}
 use Rattle.crossing.specs.Transfer.{Transfer, FitsHead, FitsEnds, crossing_of, packet_with}
 use Rattle.crossing.proofs.Heads.{whole_parts, payload_len_is, offset_there, head_there, head_back, form, named_uncut}
 use Rattle.crossing.proofs.Contents.{flow_number}
-use Rattle.crossing.proofs.Segment.{Carries, again_of, parts_back, payload_there, payload_back, sum_there, length_there, length_back, segment_is, udp_has_sum, parts_there}
+use Rattle.crossing.proofs.Segment.{Carries, again_of, carried_back, parts_back, payload_there, payload_back, sum_there, length_there, length_back, segment_is, udp_has_sum, parts_there}
 use Rattle.one_edge.specs.declared.taken.Taken.{Taken}
 use Rattle.one_edge.specs.Edge.{Edge, outside_port, own4, own6, far6}
 use Rattle.one_edge.specs.Served.{IsServed, parts_of}
@@ -91,28 +91,8 @@ carries e t octets number is fit = record {
 pub payload_length : (e : Edge) (t : Taken) (octets : List ℕ) → IsServed e t octets → length (carried_of e t octets).payload ≡ t.head.total - t.head.head_len
 payload_length e t octets is = length_there (way_of e t octets 0) t.proto (stands_of e t octets is) ∙ declared e t octets is
 
-udp_word : (proto : Proto) (payload : List ℕ) (sum : ℕ) → proto ≡ Udp → (l4_of proto payload).sum ≡ sum → word payload 6 ≡ sum
-udp_word proto payload sum udp is = rw udp at is
-
-no_more : (h : Head4) → is_fragment h ≡ false → (more_fragments (translated h (record { 0 = 0 }) (record { 0 = 0 })).frag ≡ false)
-no_more h whole = rw whole refl
-
 pub carried_is : (e : Edge) (t : Taken) (octets : List ℕ) → IsServed e t octets → Fits e t → IsCarried6 (carried_of e t octets)
-carried_is e t octets is fit =
-    let w = way_of e t octets 0 in
-    let payload = payload_of4 t.head octets in
-    let number = flow_number t.head.proto t.proto is.sound.carried.protocol is.sound.carried.no_icmp in
-    let parts = whole_parts t.head.mf t.head.offset is.carried.whole in
-    let sum = sum_there w t.proto in
-    let good : IsBadTransport t.proto payload true → ⊥ = subst (λ (b : Bool). IsBadTransport t.proto payload (not b) → ⊥) parts.0 (is.sound.carried.transport parts.1) in
-    let fine : IsBadTransport t.proto (carried_of e t octets).payload true → ⊥ = λ bad. good ((bad_with_l4 t.proto payload (ports_outside e t.ports) sum true (stands_of e t octets is)).0 bad) in
-    record {
-      protocol = number.six;
-      no_icmp = is.sound.carried.no_icmp;
-      unrouted = refl;
-      transport = λ first. subst (λ (b : Bool). IsBadTransport t.proto (carried_of e t octets).payload (not b) → ⊥) (sym (no_more t.head is.carried.whole)) fine;
-      summed = λ first udp none. udp_has_sum (parts_there w t.proto) (own6 e) (far6 e t.head.dst) (ports_outside e t.ports) udp (sym (udp_word t.proto (carried_of e t octets).payload sum udp (again_of w t.proto (carries e t octets 0 is fit)).sum_is) ∙ none);
-    }
+carried_is e t octets is fit = carried_back (way_of e t octets 0) t.proto (carries e t octets 0 is fit)
 
 pub form_of : (e : Edge) (t : Taken) (octets : List ℕ) → IsServed e t octets → Fits e t → IsPacket6 (carried_of e t octets).head (carried_of e t octets).payload (written6 (carried_of e t octets).head (carried_of e t octets).payload)
 form_of e t octets is fit =
@@ -180,7 +160,7 @@ is_crossed e t octets number access core is fit out back =
         by_answer = by_answer e t octets is;
         whole = new;
         sent = record { head = head_back w (length new); payload = new; octets = written4 (head_back w (length new)) new };
-        named = named_uncut w new (record { tos = fit.class; total = fit.total; id = fit.id }) is.carried.lasts (omega (arith, size, fit.total, is.sound.is.head_fits)) flow.back (segment_is w t.proto carry (fit.port, fit.far_port) (carried_is e t octets is fit));
+        named = named_uncut w new (record { tos = fit.class; total = fit.total; id = fit.id }) is.carried.lasts (omega (arith, size, fit.total, is.sound.is.head_fits)) flow.back (segment_is w t.proto carry (fit.port, fit.far_port));
         arrives = back ∙ ap (λ (n : ℕ). written4 (head_back w n) new) (sym size);
       };
     }
