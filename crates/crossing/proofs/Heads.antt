@@ -42,8 +42,8 @@ some_same a b e = cc
 abbrev pub frag_of : Head4 → Frag6
 frag_of h = record { offset = h.offset; more = h.mf; id = h.id }
 
-id_twice : (b : Bool) (frag : Frag6) (id : ℕ) → frag.id < 65536 → identification64 (cond b (Some frag) None) id ≡ cond b frag.id id
-id_twice true frag id fits = omega arith
+id_twice : (b : Bool) (frag : Frag6) (id : ℕ) → (b ≡ true → frag.id < 65536) → identification64 (cond b (Some frag) None) id ≡ cond b frag.id id
+id_twice true frag id fits = omega (arith, fits refl)
 id_twice false frag id fits = refl
 
 df_twice : (b : Bool) (frag : Frag6) (total : ℕ) → dont_fragment64 (cond b (Some frag) None) total ≡ (not b && not (nat_le total 1260))
@@ -77,8 +77,8 @@ placed_by : (fragment : Bool) (frag : Frag6) (len : ℕ) → frag.offset < 8192 
 placed_by true frag len low fits = (refl, omega arith, low)
 placed_by false frag len low fits = refl
 
-frag_fits : (fragment : Bool) (frag : Frag6) → frag.id < 65536 → FitsFrag (cond fragment (Some frag) None)
-frag_fits true frag fits = omega (arith, fits)
+frag_fits : (fragment : Bool) (frag : Frag6) → (fragment ≡ true → frag.id < 65536) → FitsFrag (cond fragment (Some frag) None)
+frag_fits true frag fits = omega (arith, fits refl)
 frag_fits false frag fits = tt
 
 pub form : (t : Transfer) (payload : List ℕ) → FitsHead t.taken.head → FitsEnds t.six → t.taken.head.offset < 8192 → length payload ≤ 65515

@@ -6,5 +6,6 @@ pub mod Segment
 pub mod Later
 pub mod Rows
 pub mod Query
+pub mod Piece
 pub mod Uncut
 pub mod Trials

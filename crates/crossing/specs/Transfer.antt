@@ -1,6 +1,6 @@
 -- A packet that one node translates to IPv6 and a second one translates back, between the ends that each of them gives it,
 -- and in what it then may differ.
-use Rattle.std.specs.Prelude.{◌≡◌, ℕ, ◌+◌, ◌*◌, ◌%◌, ◌^◌, ◌<◌, ◌≤◌, Bool, List, Some}
+use Rattle.std.specs.Prelude.{◌≡◌, ℕ, ◌+◌, ◌*◌, ◌%◌, ◌^◌, ◌<◌, ◌≤◌, Bool, true, List, Some}
 use Rattle.octets.specs.declared.address.Addr4.{Addr4}
 use Rattle.octets.specs.declared.address.Addr6.{Addr6}
 use Rattle.octets.specs.declared.mtus.Mtus.{Mtus}
@@ -9,6 +9,7 @@ use Rattle.ip4_packet.specs.Grammar.{payload_of4}
 use Rattle.ip6_packet.specs.Grammar.{payload_of6}
 use Rattle.l4_headers.specs.declared.ports.Ports.{Ports}
 use Rattle.icmp_messages.specs.declared.inner4.Inner4.{Inner4}
+use Rattle.xlat46.specs.Head.{is_fragment}
 use Rattle.xlat46.specs.Whole.{ArePorts}
 use Rattle.icmp_xlat.specs.declared.ends.Ends.{Ends}
 use Rattle.packets.specs.declared.packet4.Content4.{Content4}
@@ -51,11 +52,11 @@ abbrev pub IsNoError : Content4 → Type 0
 IsNoError (Error m row inner) = ⊥
 IsNoError _ = Unit {0}
 
--- numbers of a header, an address and ports that fit their fields
+-- Numbers of a header, an address and ports that fit their fields. The identification is looked at in a fragment alone.
 pub record FitsHead (h : Head4) : Type 0 where
   pub tos : h.tos < 256
   pub total : h.total < 65536
-  pub id : h.id < 65536
+  pub id : is_fragment h ≡ true → h.id < 65536
 
 pub record FitsEnds (ends : Ends Addr6) : Type 0 where
   pub src : ends.src.0 < 2 ^ 128

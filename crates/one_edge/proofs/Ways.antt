@@ -1,6 +1,6 @@
 -- A served packet goes out and is translated back.
 use Rattle.std.proofs.Common.{◌≡◌, ◌≢◌, ℕ, ◌+◌, ◌-◌, ◌%◌, ◌^◌, ◌<◌, ◌≤◌, Bool, true, false, List, length, not, Option, Some, None, refl, sym, ap, ◌∙◌, subst, arith}
-use Rattle.octets.specs.Field.{word}
+use Rattle.std.proofs.lemmas.Bool.{false≢true}
 use Rattle.octets.specs.declared.address.Addr4.{Addr4}
 use Rattle.octets.specs.declared.address.Addr6.{Addr6}
 use Rattle.octets.specs.declared.proto.Proto.{Proto}
@@ -63,13 +63,16 @@ carried_of e t octets = parts_back (way_of e t octets 0) t.proto
 pub record Fits (e : Edge) (t : Taken) : Type 0 where
   pub class : t.head.tos < 256
   pub total : t.head.total < 65536
-  pub id : t.head.id < 65536
   pub source : (own6 e).0 < 2 ^ 128
   pub far : (far6 e t.head.dst).0 < 2 ^ 128
   pub port : outside_port e t.ports.src < 65536
   pub far_port : t.ports.dst < 65536
   pub most : e.mtus.mtu4 ≤ 9000
   pub most6 : e.mtus.mtu6 ≤ 9000
+
+-- a whole packet's identification isn't looked at
+pub head_fits : (e : Edge) (t : Taken) (octets : List ℕ) → IsServed e t octets → Fits e t → FitsHead t.head
+head_fits e t octets is fit = record { tos = fit.class; total = fit.total; id = λ fragment. absurd (false≢true (sym is.carried.whole ∙ fragment)) }
 
 pub stands_of : (e : Edge) (t : Taken) (octets : List ℕ) → IsServed e t octets → header_octets t.proto ≤ length (payload_of4 t.head octets)
 stands_of e t octets is =
@@ -101,7 +104,7 @@ form_of e t octets is fit =
     let size = payload_length e t octets is in
     let number = flow_number t.head.proto t.proto is.sound.carried.protocol is.sound.carried.no_icmp in
     let low = low_offset t.head (payload_of4 t.head octets) octets is.sound.is is.sound.header in
-    let made = form w over (record { tos = fit.class; total = fit.total; id = fit.id }) (record { src = fit.source; dst = fit.far; ports = (fit.port, fit.far_port) }) low (omega (arith, size, fit.total, is.sound.is.head_fits)) number.upper in
+    let made = form w over (head_fits e t octets is fit) (record { src = fit.source; dst = fit.far; ports = (fit.port, fit.far_port) }) low (omega (arith, size, fit.total, is.sound.is.head_fits)) number.upper in
     subst (λ (n : ℕ). IsPacket6 (head_there w n) over (written6 (head_there w n) over)) size made
 
 pub read_as : (e : Edge) (t : Taken) (octets : List ℕ) → IsServed e t octets → Fits e t → Is6 (carried_of e t octets).head (carried_of e t octets).payload (written6 (carried_of e t octets).head (carried_of e t octets).payload)
@@ -160,7 +163,7 @@ is_crossed e t octets number access core is fit out back =
         by_answer = by_answer e t octets is;
         whole = new;
         sent = record { head = head_back w (length new); payload = new; octets = written4 (head_back w (length new)) new };
-        named = named_uncut w new (record { tos = fit.class; total = fit.total; id = fit.id }) is.carried.lasts (omega (arith, size, fit.total, is.sound.is.head_fits)) flow.back (segment_is w t.proto carry (fit.port, fit.far_port));
+        named = named_uncut w new (head_fits e t octets is fit) is.carried.lasts (omega (arith, size, fit.total, is.sound.is.head_fits)) flow.back (segment_is w t.proto carry (fit.port, fit.far_port));
         arrives = back ∙ ap (λ (n : ℕ). written4 (head_back w n) new) (sym size);
       };
     }
@@ -204,7 +207,6 @@ pub record Made (e : Edge) (t : Taken) (head : Head6) (source far : Addr6) (port
   pub ports_are : ports ≡ ports_outside e t.ports
   pub class_fits : head.class < 256
   pub total_fits : t.head.total < 65536
-  pub id_fits : t.head.id < 65536
   pub source_fits : source.0 < 2 ^ 128
   pub far_fits : far.0 < 2 ^ 128
   pub port_fits : ports.src < 65536
@@ -216,7 +218,6 @@ pub fits_of : (e : Edge) (t : Taken) (head : Head6) (source far : Addr6) (ports 
 fits_of e t head source far ports made = record {
   class = subst (λ (n : ℕ). n < 256) (ap (λ (h : Head6). h.class) made.translates) made.class_fits;
   total = made.total_fits;
-  id = made.id_fits;
   source = subst (λ (a : Addr6). a.0 < 2 ^ 128) made.source_is made.source_fits;
   far = subst (λ (a : Addr6). a.0 < 2 ^ 128) made.far_is made.far_fits;
   port = subst (λ (p : Ports). p.src < 65536) made.ports_are made.port_fits;

@@ -30,7 +30,7 @@ pub head_fits : (h : Head4) (octets : List ℕ) → AreOctets octets → HasFiel
 head_fits h octets are fields = record {
   tos = omega (arith, fields.tos, are 1);
   total = omega (arith, fields.total, word_fits octets 2 are);
-  id = omega (arith, fields.id, word_fits octets 4 are);
+  id = λ fragment. omega (arith, fields.id, word_fits octets 4 are);
 }
 
 pub dst_fits : (h : Head4) (octets : List ℕ) → AreOctets octets → HasFields4 h octets → h.dst.0 < 2 ^ 32
