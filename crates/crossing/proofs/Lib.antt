@@ -7,5 +7,7 @@ pub mod Later
 pub mod Rows
 pub mod Query
 pub mod Piece
+pub mod Cut
+pub mod Pieces
 pub mod Uncut
 pub mod Trials

@@ -31,10 +31,10 @@ use Rattle.ip4_packet.specs.Grammar.{payload_of4}
 -- ---- octets of a piece
 
 -- a part begins with as many octets as it has
-part_self : (xs : List ℕ) (at n : ℕ) → part xs at n ≡ part xs at (length (part xs at n))
+pub part_self : (xs : List ℕ) (at n : ℕ) → part xs at n ≡ part xs at (length (part xs at n))
 part_self xs at n = same_number_lists _ _ (grind (arith, places)) (λ k small. grind (arith, places))
 
-length-part : (xs : List ℕ) (at n : ℕ) → length (part xs at n) ≡ min n (length xs - at)
+pub length-part : (xs : List ℕ) (at n : ℕ) → length (part xs at n) ≡ min n (length xs - at)
 length-part xs at n = length-take n (drop at xs) ∙ ap (min n) (length-drop at xs)
 
 -- behind a transport header nothing was written
@@ -57,7 +57,7 @@ l4_is ports one sum other flags flag a b c = rw (a, b, c) refl
 ports_is : (src dst one other : ℕ) → src ≡ one → dst ≡ other → ◌≡◌ {A = Ports} (record { src = src; dst = dst }) (record { src = one; dst = other })
 ports_is src dst one other a b = rw (a, b) refl
 
-l4_of-front : (proto : Proto) (xs : List ℕ) (n : ℕ) → proto ≢ Icmp → header_octets proto ≤ n → l4_of proto (part xs 0 n) ≡ l4_of proto xs
+pub l4_of-front : (proto : Proto) (xs : List ℕ) (n : ℕ) → proto ≢ Icmp → header_octets proto ≤ n → l4_of proto (part xs 0 n) ≡ l4_of proto xs
 l4_of-front Tcp xs n flows inside = l4_is _ _ _ _ _ _ (ports_is _ _ _ _ (word_first xs n 0 (omega arith)) (word_first xs n 2 (omega arith))) (word_first xs n 16 (omega arith)) (octet_front xs n 13 (omega arith))
 l4_of-front Udp xs n flows inside = l4_is _ _ _ _ _ _ (ports_is _ _ _ _ (word_first xs n 0 (omega arith)) (word_first xs n 2 (omega arith))) (word_first xs n 6 (omega arith)) refl
 l4_of-front Icmp xs n flows inside = absurd (flows refl)
