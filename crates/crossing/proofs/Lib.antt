@@ -9,5 +9,6 @@ pub mod Query
 pub mod Piece
 pub mod Cut
 pub mod Pieces
+pub mod Together
 pub mod Uncut
 pub mod Trials

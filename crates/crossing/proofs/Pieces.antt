@@ -36,6 +36,7 @@ use Rattle.crossing.proofs.Cut.{cut_of, step_least, piece_reads, piece_back, IsP
 pub record ComesOfPiece (t : Transfer) (whole : List ℕ) (at : ℕ) (four : List ℕ) : Type 0 where
   pub sent : Sent
   pub named : Named (crossing_of t) (piece_at at) whole sent
+  pub part_is : sent.payload ≡ part whole at (step_of t.mtus.mtu6)
   pub octets_are : four ≡ sent.octets
 
 -- what the second node reads of a piece, and makes of it
@@ -114,6 +115,7 @@ segment_at t proto l4 octets six four at at_relay q e taken small there place re
           record {
             sent = record { head = piece_back t over at; payload = new; octets = written4 (piece_back t over at) new };
             named = made new is;
+            part_is = is;
             octets_are = sym (some_same (packet64 (piece_parts t proto at) t.four.src t.four.dst (Some t.four.ports) id) four (subst (λ (c : Content6). translation64 t.mtus (piece_head (cut_of t over) at) (piece_payload (cut_of t over) at) t.four id c ≡ Some four) one.is read.back));
           }
       | inr behind ↦
@@ -123,6 +125,7 @@ segment_at t proto l4 octets six four at at_relay q e taken small there place re
           record {
             sent = record { head = piece_back t over at; payload = new; octets = written4 (piece_back t over at) new };
             named = made new is;
+            part_is = is;
             octets_are = sym (some_same (written4 (piece_back t over at) new) four (subst (λ (c : Content6). translation64 t.mtus (piece_head (cut_of t over) at) (piece_payload (cut_of t over) at) t.four id c ≡ Some four) one read.back));
           }
     ]
@@ -143,6 +146,7 @@ later_at t proto octets six four at at_relay q e taken small there place reads b
     record {
       sent = record { head = piece_back t over at; payload = new; octets = written4 (piece_back t over at) new };
       named = named_piece t over over new at (record { inside = place.inside; units = place.units; long = refl; part_is = refl }) small read.lasts laid.laid.fits laid.number.back carries;
+      part_is = refl;
       octets_are = sym (some_same (written4 (piece_back t over at) new) four (subst (λ (c : Content6). translation64 t.mtus (piece_head (cut_of t over) at) (piece_payload (cut_of t over) at) t.four id c ≡ Some four) one read.back));
     }
 
