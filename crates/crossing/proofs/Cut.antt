@@ -120,9 +120,9 @@ named_piece t over whole new at is id lasts fits back carries =
       part = (omega (arith, size, some, is.inside), is.units, omega (arith, size, is.long, is.inside), is.part_is ∙ part_self whole at step ∙ ap (λ (n : ℕ). part whole at n) (sym (ap length is.part_is)));
       offset = ap (λ (n : ℕ). n + at / 8) (offset_there t.taken.head);
       more = more_of at step (length over) (more_fragments (fragment_header t.taken.head)) is.inside
-      ∙ ap (λ (n : ℕ). nat_lt (at + n) (length over) || more_fragments (fragment_header t.taken.head)) (sym size)
-      ∙ ap (λ (n : ℕ). nat_lt (at + length new) n || more_fragments (fragment_header t.taken.head)) (sym is.long)
-      ∙ ap (λ (b : Bool). nat_lt (at + length new) (length whole) || b) (more_there t.taken.head);
+          ∙ ap (λ (n : ℕ). nat_lt (at + n) (length over) || more_fragments (fragment_header t.taken.head)) (sym size)
+          ∙ ap (λ (n : ℕ). nat_lt (at + length new) n || more_fragments (fragment_header t.taken.head)) (sym is.long)
+          ∙ ap (λ (b : Bool). nat_lt (at + length new) (length whole) || b) (more_there t.taken.head);
       tos = refl;
       proto = back;
       src = refl;

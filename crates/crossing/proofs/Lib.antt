@@ -11,4 +11,5 @@ pub mod Cut
 pub mod Pieces
 pub mod Together
 pub mod Uncut
+pub mod Over
 pub mod Trials

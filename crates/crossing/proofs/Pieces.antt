@@ -191,7 +191,7 @@ cut_there t octets six flows taken small there ports = by t.taken.content refl f
             long = length_back t proto laid.carries.stands ∙ sym (length_there t proto laid.carries.stands);
             carries = subst (λ (c : Content4). IsPayload (crossing_of t) c (content_with t.four c) whole) (sym e) (segment_is t proto laid.carries are);
             each = λ h payload four k at_relay q may inside back.
-            segment_at t proto l4 octets six four (k * step) at_relay q e taken small there (place_of t over k inside) (piece_reads t octets over six h payload k at_relay q taken small laid.laid may inside back.is) back are;
+                segment_at t proto l4 octets six four (k * step) at_relay q e taken small there (place_of t over k inside) (piece_reads t octets over six h payload k at_relay q taken small laid.laid may inside back.is) back are;
           },
         )
     by (Later4 proto) e fine are =
@@ -205,7 +205,7 @@ cut_there t octets six flows taken small there ports = by t.taken.content refl f
             long = refl;
             carries = subst (λ (c : Content4). IsPayload (crossing_of t) c (content_with t.four c) over) (sym e) refl;
             each = λ h payload four k at_relay q may inside back.
-            later_at t proto octets six four (k * step) at_relay q e taken small there (place_of t over k inside) (piece_reads t octets over six h payload k at_relay q taken small laid.laid may inside back.is) back;
+                later_at t proto octets six four (k * step) at_relay q e taken small there (place_of t over k inside) (piece_reads t octets over six h payload k at_relay q taken small laid.laid may inside back.is) back;
           },
         )
     by (Query4 m row) e fine are = absurd (false≢true (sym fine))

@@ -97,8 +97,8 @@ comes_from t six over whole h payload k at_relay (p ∷ pieces) (four ∷ fours)
           sent = one.sent ∷ others.sent;
           named = λ place where_it_is. named_at place one.sent size one.named others.named after where_it_is;
           rest = ap (λ (xs : List ℕ). xs ++ joined others.sent) one.part_is
-          ∙ ap (λ (xs : List ℕ). part whole at step ++ xs) (others.rest ∙ ap (λ (n : ℕ). drop n whole) after)
-          ∙ split_at whole at step;
+              ∙ ap (λ (xs : List ℕ). part whole at step ++ xs) (others.rest ∙ ap (λ (n : ℕ). drop n whole) after)
+              ∙ split_at whole at step;
           octets_are = ap (λ (xs : List ℕ). xs ∷ fours) one.octets_are ∙ ap (λ (xs : List (List ℕ)). one.sent.octets ∷ xs) others.octets_are;
         }
       where
@@ -109,11 +109,13 @@ comes_from t six over whole h payload k at_relay (p ∷ pieces) (four ∷ fours)
             → ((at : ℕ) → (at ≡ suc k * step_of t.mtus.mtu6) ⊎ (length whole ≤ suc k * step_of t.mtus.mtu6) → AreNamedFrom (crossing_of t) whole at others.sent) → suc k * step_of t.mtus.mtu6 ≡ k * step_of t.mtus.mtu6 + step_of t.mtus.mtu6
             → (place ≡ k * step_of t.mtus.mtu6) ⊎ (length whole ≤ k * step_of t.mtus.mtu6) → AreNamedFrom (crossing_of t) whole place (r ∷ others.sent)
         named_at place r size named later after (inr past) = absurd (omega (arith, past, inside, cut.long))
-        named_at place r size named later after (inl here) =
-            (subst (λ (n : ℕ). Named (crossing_of t) (piece_at n) whole r) (sym here) named, later (place + length r.payload) (elim (cases_lt (suc k * step_of t.mtus.mtu6) (length whole)) [
-              | inl more ↦ inl (omega (arith, size, here, after, more))
-              | inr end ↦ inr end
-            ]))
+        named_at place r size named later after (inl here) = (
+          subst (λ (n : ℕ). Named (crossing_of t) (piece_at n) whole r) (sym here) named,
+          later (place + length r.payload) (elim (cases_lt (suc k * step_of t.mtus.mtu6) (length whole)) [
+            | inl more ↦ inl (omega (arith, size, here, after, more))
+            | inr end ↦ inr end
+          ]),
+        )
 
 pub comes_together : (t : Transfer) (octets : List ℕ) (at_relay : Bool) (pieces : List Parcel) (fours : List (List ℕ)) → IsTaken t octets → t.taken.head.id < 65536 → IsCutInto t pieces → AreBack t at_relay pieces fours
     → ComeTogether (crossing_of t) fours

@@ -1,9 +1,10 @@
 -- A packet that one node translates to IPv6 and a second one translates back, between the ends that each of them gives it,
 -- and in what it then may differ.
-use Rattle.std.specs.Prelude.{◌≡◌, ℕ, ◌+◌, ◌*◌, ◌%◌, ◌^◌, ◌<◌, ◌≤◌, Bool, true, List, Some}
+use Rattle.std.specs.Prelude.{◌≡◌, ℕ, ◌+◌, ◌*◌, ◌%◌, ◌^◌, ◌<◌, ◌≤◌, Bool, false, true, List, slice_get, Some}
 use Rattle.octets.specs.declared.address.Addr4.{Addr4}
 use Rattle.octets.specs.declared.address.Addr6.{Addr6}
 use Rattle.octets.specs.declared.mtus.Mtus.{Mtus}
+use Rattle.octets.specs.declared.parcel.Parcel.{Parcel}
 use Rattle.ip4_packet.specs.declared.head.Head4.{Head4}
 use Rattle.ip4_packet.specs.Grammar.{payload_of4}
 use Rattle.ip6_packet.specs.Grammar.{payload_of6}
@@ -18,10 +19,11 @@ use Rattle.packets.specs.declared.packet4.Packet4.{Packet4}
 use Rattle.packets.specs.declared.packet6.Packet6.{Packet6}
 use Rattle.packets.specs.Packet4.{IsPacket4}
 use Rattle.packets.specs.Packet6.{IsPacket6}
-use Rattle.transit.specs.Passage46.{translation46}
+use Rattle.packet_faults.specs.Cut.{step_of}
+use Rattle.transit.specs.Passage46.{translation46, is_message4, AreCutOf}
 use Rattle.transit.specs.Passage64.{translation64}
 use Rattle.crossing.specs.Nat44.{with_ports, with_identifier}
-use Rattle.crossing.specs.Named.{Crossing, Sent, Named, Portion}
+use Rattle.crossing.specs.Named.{Crossing, Sent, Named, Portion, uncut, piece_at}
 
 -- the packet and its payload as they were taken, its ends over IPv6 and then over IPv4, the MTUs of the domain, and the
 -- number of the record
@@ -78,6 +80,22 @@ pub record IsTaken (t : Transfer) (octets : List ℕ) : Type 0 where
 -- the first node translates it to these octets
 abbrev pub IsThere : Transfer → List ℕ → Type 0
 IsThere t six = translation46 t.mtus t.taken.head t.payload t.six t.taken.content ≡ Some six
+
+-- or cuts the translation, and this is one of the pieces, which begins so many octets behind the start of the payload
+pub record IsPieceThere (t : Transfer) (at : ℕ) (six : List ℕ) : Type 0 where
+  pub octets : List ℕ
+  pub there : IsThere t octets
+  pub flows : is_message4 t.taken.content ≡ false
+  pub id : t.taken.head.id < 65536
+  pub pieces : List Parcel
+  pub cut : AreCutOf octets t.mtus.mtu6 t.taken.head.id pieces
+  pub k : ℕ
+  pub found : slice_get pieces k ≡ Some (record { place = 0; bytes = six })
+  pub begins : at ≡ k * step_of t.mtus.mtu6
+
+abbrev pub IsSentThere : Transfer → Portion → List ℕ → Type 0
+IsSentThere t uncut six = IsThere t six
+IsSentThere t (piece_at at) six = IsPieceThere t at six
 
 -- The second node takes these octets as this packet, whose hop limit lasts, and translates it to those, with the number of
 -- the record as the identification of a packet that has none.
