@@ -33,6 +33,9 @@ head_fits h octets are fields = record {
   id = λ fragment. omega (arith, fields.id, word_fits octets 4 are);
 }
 
+pub id_fits : (h : Head4) (octets : List ℕ) → AreOctets octets → HasFields4 h octets → h.id < 65536
+id_fits h octets are fields = omega (arith, fields.id, word_fits octets 4 are)
+
 pub dst_fits : (h : Head4) (octets : List ℕ) → AreOctets octets → HasFields4 h octets → h.dst.0 < 2 ^ 32
 dst_fits h octets are fields = omega (arith, fields.dst, quad_fits octets 16 are)
 

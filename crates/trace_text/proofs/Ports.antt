@@ -68,6 +68,20 @@ source_replaced (Query m row) port from ends q fine small are read flow =
     }
 source_replaced (Error m row inner) port from ends q fine small are read flow = absurd fine
 
+-- the same where the ports over IPv6 are given
+pub source_given : (content : Content4) (port : ℕ) (from : Addr4) (ends : Ends Addr4) → IsNoError content → port < 65536 → ArePorts (flow_of4 content).ports
+    → ends.ports ≡ with_near_port (flow_of4 content).proto (flow_of4 content).fault port (flow_of4 content).ports → Replaces content ends (content_from from port content)
+source_given (Segment proto l4) port from ends fine small are same = record {
+  is = ap (λ (ports : Ports). Segment proto (with_ports ports l4)) (same ∙ near_is_source proto port l4.ports);
+  fits = subst (λ (ports : Ports). ArePorts ports) (sym same) (near_fits proto false port l4.ports small are);
+}
+source_given (Later proto) port from ends fine small are same = record { is = refl; fits = tt }
+source_given (Query m row) port from ends fine small are same = record {
+  is = ap (λ (ports : Ports). Query (with_identifier ports.src m) row) same;
+  fits = subst (λ (ports : Ports). ArePorts ports) (sym same) (small, small);
+}
+source_given (Error m row inner) port from ends fine small are same = absurd fine
+
 -- ---- to an edge
 
 -- the ports that the edge gives a packet that comes in
@@ -95,6 +109,22 @@ destination_replaced (Query m row) six port to ends q fine small are own read gi
     }
 destination_replaced (Error m row inner) six port to ends q fine small are own read given = absurd fine
 
+-- the same where the ports over IPv6 are given
+pub destination_given : (content : Content4) (six : Ports) (port : ℕ) (to : Addr4) (ends : Ends Addr4) → IsNoError content → port < 65536 → ArePorts six → ArePortsOf4 content six
+    → ends.ports ≡ with_far_port (flow_of4 content).proto (flow_of4 content).fault port six → Replaces content ends (content_to to port content)
+destination_given (Segment proto l4) six port to ends fine small are own far =
+    let same : six ≡ l4.ports = own (λ other later. cc) in
+    record {
+      is = ap (λ (ports : Ports). Segment proto (with_ports ports l4)) (far ∙ far_is_destination proto port six ∙ ap (λ (ports : Ports). with_destination proto port ports) same);
+      fits = subst (λ (ports : Ports). ArePorts ports) (sym far) (far_fits proto false port six small are);
+    }
+destination_given (Later proto) six port to ends fine small are own far = record { is = refl; fits = tt }
+destination_given (Query m row) six port to ends fine small are own far = record {
+  is = ap (λ (ports : Ports). Query (with_identifier ports.src m) row) far;
+  fits = subst (λ (ports : Ports). ArePorts ports) (sym far) (small, small);
+}
+destination_given (Error m row inner) six port to ends fine small are own far = absurd fine
+
 -- ---- from an edge to an edge
 
 kept : (port rest : ℕ) → (port * 2 ^ 16 + rest % 2 ^ 16) % 2 ^ 16 ≡ rest % 2 ^ 16
@@ -118,3 +148,19 @@ both_replaced (Query m row) one other from to ends q fine small also are read gi
       fits = subst (λ (ports : Ports). ArePorts ports) (sym far) (also, also);
     }
 both_replaced (Error m row inner) one other from to ends q fine small also are read given = absurd fine
+
+pub both_given : (content : Content4) (one other : ℕ) (from to : Addr4) (ends : Ends Addr4) → IsNoError content → one < 65536 → other < 65536 → ArePorts (flow_of4 content).ports
+    → ends.ports ≡ with_far_port (flow_of4 content).proto (flow_of4 content).fault other (with_near_port (flow_of4 content).proto (flow_of4 content).fault one (flow_of4 content).ports)
+    → Replaces content ends (content_to to other (content_from from one content))
+both_given (Segment proto l4) one other from to ends fine small also are far =
+    let six = with_near_port proto false one l4.ports in
+    record {
+      is = ap (λ (ports : Ports). Segment proto (with_ports ports l4)) (far ∙ far_is_destination proto other six ∙ ap (λ (ports : Ports). with_destination proto other ports) (near_is_source proto one l4.ports));
+      fits = subst (λ (ports : Ports). ArePorts ports) (sym far) (far_fits proto false other six also (near_fits proto false one l4.ports small are));
+    }
+both_given (Later proto) one other from to ends fine small also are far = record { is = refl; fits = tt }
+both_given (Query m row) one other from to ends fine small also are far = record {
+  is = ap (λ (ports : Ports). Query (with_identifier ports.src m) row) far ∙ ap (λ (n : ℕ). Query (record m { rest = other * 2 ^ 16 + n }) row) (sym (kept one m.rest));
+  fits = subst (λ (ports : Ports). ArePorts ports) (sym far) (also, also);
+}
+both_given (Error m row inner) one other from to ends fine small also are far = absurd fine

@@ -9,19 +9,23 @@ use Rattle.nat_model.specs.declared.answer.Answer.{Answer}
 use Rattle.packets.specs.declared.packet4.Packet4.{Packet4}
 use Rattle.packets.specs.declared.packet6.Packet6.{Packet6}
 use Rattle.packets.specs.Packet6.{IsPacket6}
+use Rattle.transit.specs.declared.passage.Passage.{Passage}
 use Rattle.transit.specs.declared.passage.Passage.TheVariants.{Sent}
 use Rattle.edge_node.specs.Asked.{near_addr6}
 use Rattle.relay_node.specs.Relay.{Relay}
 use Rattle.crossing.specs.Nat44.{nat44_by}
-use Rattle.crossing.specs.Named.{Portion}
+use Rattle.crossing.specs.Named.{Crossing, Portion}
 use Rattle.crossing.specs.Transfer.{ComesOf}
 use Rattle.trace_text.specs.Answered.{Step, AreRulesOf, AnsweredOut, AnsweredIn, rules_at}
-use Rattle.trace_text.specs.Hops.{IsTaken4, FitsAnswer, EdgeSends, EdgeReceives, RelaySends, RelayReceives}
+use Rattle.trace_text.specs.Hops.{IsTaken4, FitsAnswer, EdgeSends, EdgeReceives, IsEmitted, RelaySends, RelayReceives}
 
--- the packet as it was taken, what was sent over the access network and read there, and what was sent at the end
+-- the packet as it was taken, how it passed the first node, what went over the access network and was read there, and what was
+-- sent at the end
 pub record Passed : Type 0 where
   pub taken : Packet4
   pub octets : List ℕ
+  pub passage : Passage
+  pub portion : Portion
   pub six : List ℕ
   pub read : Packet6
   pub four : List ℕ
@@ -48,7 +52,8 @@ pub record ToRelay (domain : Domain) (step : Step) (answer : Answer) (relay : Re
   pub answered : AnsweredOut step c.taken.head.dst answer
   pub rules : AreRulesOf domain.dmr (rules_at step)
   pub fits : FitsAnswer answer
-  pub sent : EdgeSends domain.mtus answer c.taken c.octets (Sent c.six)
+  pub sent : EdgeSends domain.mtus answer c.taken c.octets c.passage
+  pub emitted : IsEmitted domain.mtus c.passage c.portion c.six
   pub arrives : IsPacket6 true c.read c.six
   pub relay_is : IsRelayOf domain relay
   pub received : RelayReceives relay c.read c.six (Sent c.four)
@@ -57,7 +62,8 @@ pub record ToRelay (domain : Domain) (step : Step) (answer : Answer) (relay : Re
 pub record FromRelay (domain : Domain) (relay : Relay) (step : Step) (answer : Answer) (c : Passed) : Type 0 where
   pub taken : IsTaken4 c.taken c.octets
   pub relay_is : IsRelayOf domain relay
-  pub sent : RelaySends relay c.taken c.octets (Sent c.six)
+  pub sent : RelaySends relay c.taken c.octets c.passage
+  pub emitted : IsEmitted domain.mtus c.passage c.portion c.six
   pub arrives : IsPacket6 false c.read c.six
   pub answered : AnsweredIn step c.read.head.src (near_addr6 c.read c.read.content) answer
   pub rules : AreRulesOf domain.dmr (rules_at step)
@@ -75,15 +81,26 @@ pub record EdgeToEdge (domain : Domain) (one other : End) (c : Passed) : Type 0 
   pub out : AnsweredOut one.step c.taken.head.dst one.answer
   pub rules_out : AreRulesOf domain.dmr (rules_at one.step)
   pub fits_out : FitsAnswer one.answer
-  pub sent : EdgeSends domain.mtus one.answer c.taken c.octets (Sent c.six)
+  pub sent : EdgeSends domain.mtus one.answer c.taken c.octets c.passage
+  pub emitted : IsEmitted domain.mtus c.passage c.portion c.six
   pub arrives : IsPacket6 false c.read c.six
   pub inward : AnsweredIn other.step c.read.head.src (near_addr6 c.read c.read.content) other.answer
   pub rules_in : AreRulesOf domain.dmr (rules_at other.step)
   pub fits_in : FitsAnswer other.answer
   pub received : EdgeReceives domain.mtus (id_of domain) other.answer c.read c.six (Sent c.four)
 
+-- the crossing, with this packet in place of the one that was taken
+abbrev pub crossing_with : Domain → Passed → Packet4 → Crossing
+crossing_with domain c replaced = record {
+  taken = c.taken;
+  payload = payload_of4 c.taken.head c.octets;
+  replaced = replaced;
+  mtus = domain.mtus;
+  number = domain.number;
+}
+
 -- what was sent is the packet with what these answers replace in it, but for the named header changes
-pub record IsOneStep (domain : Domain) (answers : List Answer) (c : Passed) (portion : Portion) : Type 0 where
+pub record IsOneStep (domain : Domain) (answers : List Answer) (c : Passed) : Type 0 where
   pub replaced : Packet4
   pub by_answers : nat44_by c.taken answers ≡ Some replaced
-  pub comes : ComesOf (record { taken = c.taken; payload = payload_of4 c.taken.head c.octets; replaced = replaced; mtus = domain.mtus; number = domain.number }) portion c.four
+  pub comes : ComesOf (crossing_with domain c replaced) c.portion c.four

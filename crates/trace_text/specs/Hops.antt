@@ -1,6 +1,6 @@
 -- What each of two nodes does with a packet that crosses: the first takes it over IPv4, from its LAN or from the core, and sends it
 -- over the access network; the second takes it there and sends it on over IPv4.
-use Rattle.std.specs.Prelude.{◌≡◌, ℕ, ◌<◌, ◌^◌, List, Some}
+use Rattle.std.specs.Prelude.{◌≡◌, ℕ, ◌*◌, ◌<◌, ◌^◌, List, slice_get, Some}
 use Rattle.octets.specs.Field.{octet}
 use Rattle.octets.specs.declared.address.Addr4.{Addr4}
 use Rattle.octets.specs.declared.address.Addr6.{Addr6}
@@ -11,6 +11,7 @@ use Rattle.ip6_packet.specs.Grammar.{payload_of6}
 use Rattle.l4_headers.specs.declared.ports.Ports.{Ports}
 use Rattle.nat_model.specs.declared.answer.Answer.{Answer}
 use Rattle.nat_model.specs.declared.answer.Answer.TheVariants.{Out, In}
+use Rattle.packet_faults.specs.Cut.{step_of}
 use Rattle.packets.specs.declared.packet4.Content4.{Content4}
 use Rattle.packets.specs.declared.packet4.Content4.TheVariants.{Later as Later4}
 use Rattle.packets.specs.declared.packet4.Packet4.{Packet4}
@@ -20,12 +21,14 @@ use Rattle.packets.specs.declared.packet6.Packet6.{Packet6}
 use Rattle.packets.specs.Asked.{flow_of4, flow_of6}
 use Rattle.packets.specs.Packet4.{IsPacket4}
 use Rattle.transit.specs.declared.passage.Passage.{Passage}
+use Rattle.transit.specs.declared.passage.Passage.TheVariants.{Sent, Cut}
 use Rattle.transit.specs.Passage46.{IsPassage46}
 use Rattle.transit.specs.Passage64.{IsPassage64}
 use Rattle.edge_node.specs.Ends.{ends_out, ends_in}
 use Rattle.relay_node.specs.Relay.{Relay, source_port, destination_port, source_of, own_of, extracted}
 use Rattle.relay_node.specs.FromAccess.{ends64}
 use Rattle.relay_node.specs.FromIpv4.{ends46}
+use Rattle.crossing.specs.Named.{Portion, uncut, piece_at}
 use Rattle.crossing.specs.Transfer.{FitsEnds}
 
 -- octets of a packet
@@ -60,6 +63,14 @@ abbrev pub EdgeReceives : Mtus → ℕ → Answer → Packet6 → List ℕ → P
 EdgeReceives mtus id (In to port from peer freed) q six passage =
     IsPassage64 (record { mtus = mtus; ends = ends_in (flow_of6 q.content) to port from peer; id = id }) q (payload_of6 q.head six) passage
 EdgeReceives mtus id _ q six passage = ⊥
+
+-- What goes over the access network: the translation, or one of the pieces into which it is cut, which begins so many octets
+-- behind the start of the payload.
+abbrev pub IsEmitted : Mtus → Passage → Portion → List ℕ → Type 0
+IsEmitted mtus (Sent octets) uncut six = octets ≡ six
+IsEmitted mtus (Cut pieces) (piece_at at) six =
+    (k : ℕ) × (slice_get pieces k ≡ Some (record { place = 0; bytes = six })) × (at ≡ k * step_of mtus.mtu6)
+IsEmitted mtus _ _ six = ⊥
 
 -- By the addresses of its rules the relay sends a packet of the core to an edge, and one of an edge to the core.
 pub record RelaySends (relay : Relay) (p : Packet4) (octets : List ℕ) (passage : Passage) : Type 0 where
