@@ -1,4 +1,15 @@
-pub mod Flow
+pub mod Heads
+pub mod Contents
 pub mod Sums
 pub mod Twice
+pub mod Segment
+pub mod Later
+pub mod Rows
+pub mod Query
+pub mod Piece
+pub mod Cut
+pub mod Pieces
+pub mod Together
+pub mod Uncut
+pub mod Over
 pub mod Trials

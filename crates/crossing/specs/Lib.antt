@@ -1,5 +1,4 @@
-pub mod Flow
 pub mod Named
 pub mod Nat44
-pub mod Packet
 pub mod Pieces
+pub mod Transfer

@@ -24,12 +24,15 @@ use Rattle.icmp_xlat.specs.declared.table.Rest.TheVariants.{Query, Zero, Protoco
 use Rattle.icmp_xlat.specs.Inner.{inner_payload}
 use Rattle.icmp_xlat.specs.Mtu.{mtu46, mtu64}
 use Rattle.icmp_xlat.specs.Table.{table46, table64, row_of, pointers46, pointers64, pointer_of}
-use Rattle.crossing.specs.Packet.{Content, Packet4, flow, later, query, error}
+use Rattle.packets.specs.declared.packet4.Content4.{Content4}
+use Rattle.packets.specs.declared.packet4.Content4.TheVariants.{Segment, Later, Query as QueryOf, Error}
+use Rattle.packets.specs.declared.packet4.Packet4.{Packet4}
 
--- a crossing: the packet as the first node took it, the same with the addresses and ports that were replaced, the MTUs
--- of the domain, and the number of the record
+-- a crossing: the packet and its payload as the first node took them, the packet with the addresses and ports that were
+-- replaced, the MTUs of the domain, and the number of the record
 pub record Crossing : Type 0 where
   pub taken : Packet4
+  pub payload : List ℕ
   pub replaced : Packet4
   pub mtus : Mtus
   pub number : ℕ
@@ -41,45 +44,45 @@ pub record Sent : Type 0 where
   pub octets : List ℕ
 
 -- it came in one piece, or is the piece that begins so many octets behind the start of the payload
-pub data Extent : Type 0 where
-  uncut : Extent
-  piece : ℕ → Extent
+pub data Portion : Type 0 where
+  uncut : Portion
+  piece_at : ℕ → Portion
 
 -- the record number for a packet that was whole and uncut, and else the identification that it came with
-abbrev pub identification : Head4 → Extent → ℕ → ℕ
+abbrev pub identification : Head4 → Portion → ℕ → ℕ
 identification head uncut number = if is_fragment head then head.id else number % 2 ^ 16
-identification head (piece at) number = head.id
+identification head (piece_at at) number = head.id
 
 -- "don't fragment" for a packet that was whole and uncut, where it has more than 1260 octets
-abbrev pub dont_fragment : Head4 → Extent → ℕ → Bool
+abbrev pub dont_fragment : Head4 → Portion → ℕ → Bool
 dont_fragment head uncut total = not (is_fragment head) && not (nat_le total 1260)
-dont_fragment head (piece at) total = false
+dont_fragment head (piece_at at) total = false
 
 -- where the fragment stands in the whole payload of its packet, in units of 8 octets; more fragments follow it: what
 -- the packet said of itself, and of a piece that other octets of the packet follow
-abbrev pub offset : Head4 → Extent → ℕ
+abbrev pub offset : Head4 → Portion → ℕ
 offset head uncut = head.offset
-offset head (piece at) = head.offset + at / 8
+offset head (piece_at at) = head.offset + at / 8
 
-abbrev pub more : Head4 → Extent → ℕ → ℕ → Bool
+abbrev pub more : Head4 → Portion → ℕ → ℕ → Bool
 more head uncut len all = head.mf
-more head (piece at) len all = nat_lt (at + len) all || head.mf
+more head (piece_at at) len all = nat_lt (at + len) all || head.mf
 
 -- the octets of the payload that are sent
-abbrev pub IsPart : Extent → List ℕ → List ℕ → Type 0
+abbrev pub IsPart : Portion → List ℕ → List ℕ → Type 0
 IsPart uncut whole payload = payload ≡ whole
-IsPart (piece at) whole payload =
+IsPart (piece_at at) whole payload =
     (0 < length payload) × (at % 8 ≡ 0) × (at + length payload ≤ length whole) × (payload ≡ part whole at (length payload))
 
 -- TCP and UDP: ports as they were replaced, and all other octets but the sum's as they were
-pub record IsFlow (x : Crossing) (proto : Proto) (ports : Ports) (payload whole : List ℕ) : Type 0 where
+pub record IsSegment (x : Crossing) (proto : Proto) (ports : Ports) (whole : List ℕ) : Type 0 where
   pub sum : ℕ
-  pub rest : whole ≡ with_l4 proto payload ports sum
+  pub rest : whole ≡ with_l4 proto x.payload ports sum
   -- the sum changes by the addresses and ports that were replaced; a UDP sum of 0 is written as 65535
-  pub changed : lacks_sum proto (is_fragment x.taken.head) (l4_of proto payload).sum ≡ false
-      → sum ≡ readdressed_sum proto (l4_of proto payload) (addresses4 x.taken.head) (addresses4 x.replaced.head) ports
+  pub changed : lacks_sum proto (is_fragment x.taken.head) (l4_of proto x.payload).sum ≡ false
+      → sum ≡ readdressed_sum proto (l4_of proto x.payload) (addresses4 x.taken.head) (addresses4 x.replaced.head) ports
   -- the missing sum of a whole UDP packet is the right one, which isn't 0
-  pub missing : lacks_sum proto (is_fragment x.taken.head) (l4_of proto payload).sum ≡ true
+  pub missing : lacks_sum proto (is_fragment x.taken.head) (l4_of proto x.payload).sum ≡ true
       → (sum ≢ 0) × IsRightOver (pseudo_header4 x.replaced.head.src x.replaced.head.dst 17 (length whole)) whole 0
 
 -- an ICMP message: its type and code by the first table followed by the second, and a right sum
@@ -149,15 +152,15 @@ pub record IsErrorAfter (mtus : Mtus) (m : Icmp4) (taken new : Inner4) (whole : 
   pub body : told.body ≡ inner_after taken new
 
 -- the payload that comes of what was taken and of what was replaced in it; both are of one kind
-abbrev pub IsPayload : Crossing → Content → Content → List ℕ → Type 0
-IsPayload x taken (flow proto ports payload) whole = IsFlow x proto ports payload whole
-IsPayload x taken (later payload) whole = whole ≡ payload
-IsPayload x taken (query m) whole = IsQueryAfter m whole
-IsPayload x (error _ taken) (error m new) whole = IsErrorAfter x.mtus m taken new whole
-IsPayload x _ (error m new) whole = ⊥
+abbrev pub IsPayload : Crossing → Content4 → Content4 → List ℕ → Type 0
+IsPayload x taken (Segment proto l4) whole = IsSegment x proto l4.ports whole
+IsPayload x taken (Later proto) whole = whole ≡ x.payload
+IsPayload x taken (QueryOf m row) whole = IsQueryAfter m whole
+IsPayload x (Error _ _ taken) (Error m row new) whole = IsErrorAfter x.mtus m taken new whole
+IsPayload x _ (Error m row new) whole = ⊥
 
 -- the packet that comes of a crossing, where all of the payload, cut or not, is this one
-pub record Named (x : Crossing) (extent : Extent) (whole : List ℕ) (r : Sent) : Type 0 where
+pub record Named (x : Crossing) (portion : Portion) (whole : List ℕ) (r : Sent) : Type 0 where
   -- options, header length, total and header sum: none, 20, 20 plus the payload, and right; the reserved flag is 0, and
   -- nothing stands behind the total
   pub octets : r.octets ≡ written4 r.head r.payload
@@ -167,14 +170,14 @@ pub record Named (x : Crossing) (extent : Extent) (whole : List ℕ) (r : Sent) 
   -- TTL: 2 less
   pub ttl : r.head.ttl + 2 ≡ x.replaced.head.ttl
   -- identification and "don't fragment"
-  pub id : r.head.id ≡ identification x.replaced.head extent x.number
-  pub df : r.head.df ≡ dont_fragment x.replaced.head extent r.head.total
+  pub id : r.head.id ≡ identification x.replaced.head portion x.number
+  pub df : r.head.df ≡ dont_fragment x.replaced.head portion r.head.total
   -- sums, ICMP messages, and what they embed
   pub payload : IsPayload x x.taken.content x.replaced.content whole
   -- of a cut packet one piece
-  pub part : IsPart extent whole r.payload
-  pub offset : r.head.offset ≡ offset x.replaced.head extent
-  pub more : r.head.mf ≡ more x.replaced.head extent (length r.payload) (length whole)
+  pub part : IsPart portion whole r.payload
+  pub offset : r.head.offset ≡ offset x.replaced.head portion
+  pub more : r.head.mf ≡ more x.replaced.head portion (length r.payload) (length whole)
   -- all else is as it was
   pub tos : r.head.tos ≡ x.replaced.head.tos
   pub proto : r.head.proto ≡ x.replaced.head.proto

@@ -5,11 +5,14 @@ use Rattle.octets.specs.declared.address.Addr4.{Addr4}
 use Rattle.octets.specs.declared.proto.Proto.{Proto}
 use Rattle.octets.specs.declared.proto.Proto.TheVariants.{Tcp, Udp, Icmp}
 use Rattle.l4_headers.specs.declared.ports.Ports.{Ports}
+use Rattle.l4_headers.specs.declared.ports.L4.{L4}
 use Rattle.icmp_messages.specs.declared.icmp4.Icmp4.{Icmp4}
 use Rattle.icmp_messages.specs.declared.inner4.Inner4.{Inner4}
 use Rattle.nat_model.specs.declared.answer.Answer.{Answer}
 use Rattle.nat_model.specs.declared.answer.Answer.TheVariants.{Out, Turn, In, Kept, Held, Refused}
-use Rattle.crossing.specs.Packet.{Content, Packet4, flow, later, query, error}
+use Rattle.packets.specs.declared.packet4.Content4.{Content4}
+use Rattle.packets.specs.declared.packet4.Content4.TheVariants.{Segment, Later, Query, Error}
+use Rattle.packets.specs.declared.packet4.Packet4.{Packet4}
 
 -- another source port, and another destination port; both ports of an echo are its identifier
 abbrev pub with_source : Proto → ℕ → Ports → Ports
@@ -21,6 +24,10 @@ abbrev pub with_destination : Proto → ℕ → Ports → Ports
 with_destination Tcp port ports = record ports { dst = port }
 with_destination Udp port ports = record ports { dst = port }
 with_destination Icmp port ports = record { src = port; dst = port }
+
+-- a transport header with other ports
+abbrev pub with_ports : Ports → L4 → L4
+with_ports ports l4 = record { ports = ports; sum = l4.sum; flags = l4.flags }
 
 -- a query with another identifier, which has the first two of the four octets behind the sum (RFC 792)
 abbrev pub with_identifier : ℕ → Icmp4 → Icmp4
@@ -34,21 +41,21 @@ abbrev pub inner_to : Addr4 → ℕ → Inner4 → Inner4
 inner_to addr port inner = record inner { head = record inner.head { dst = addr }; ports = with_destination inner.proto port inner.ports }
 
 -- The packet is sent from this address and port. An error is sent about a packet that came to them.
-abbrev pub content_from : Addr4 → ℕ → Content → Content
-content_from addr port (flow proto ports payload) = flow proto (with_source proto port ports) payload
-content_from addr port (later payload) = later payload
-content_from addr port (query m) = query (with_identifier port m)
-content_from addr port (error m inner) = error m (inner_to addr port inner)
+abbrev pub content_from : Addr4 → ℕ → Content4 → Content4
+content_from addr port (Segment proto l4) = Segment proto (with_ports (with_source proto port l4.ports) l4)
+content_from addr port (Later proto) = Later proto
+content_from addr port (Query m row) = Query (with_identifier port m) row
+content_from addr port (Error m row inner) = Error m row (inner_to addr port inner)
 
 abbrev pub sent_from : Addr4 → ℕ → Packet4 → Packet4
 sent_from addr port p = record { head = record p.head { src = addr }; content = content_from addr port p.content }
 
 -- The packet is received at this address and port. An error is received about a packet that came from them.
-abbrev pub content_to : Addr4 → ℕ → Content → Content
-content_to addr port (flow proto ports payload) = flow proto (with_destination proto port ports) payload
-content_to addr port (later payload) = later payload
-content_to addr port (query m) = query (with_identifier port m)
-content_to addr port (error m inner) = error m (inner_from addr port inner)
+abbrev pub content_to : Addr4 → ℕ → Content4 → Content4
+content_to addr port (Segment proto l4) = Segment proto (with_ports (with_destination proto port l4.ports) l4)
+content_to addr port (Later proto) = Later proto
+content_to addr port (Query m row) = Query (with_identifier port m) row
+content_to addr port (Error m row inner) = Error m row (inner_from addr port inner)
 
 abbrev pub received_at : Addr4 → ℕ → Packet4 → Packet4
 received_at addr port p = record { head = record p.head { dst = addr }; content = content_to addr port p.content }

@@ -1,20 +1,32 @@
 //! What holds of every packet that crosses the domain. Each law is the contract of a function that does nothing.
 
-ghost use Rattle.std.specs.Prelude.{◌≡◌, ℕ, List, Some};
-ghost use Rattle.octets.specs.declared.parcel.Parcel.{Parcel as Freed};
-ghost use Rattle.nat_model.specs.declared.answer.Answer.TheVariants.{Out};
-ghost use Rattle.xlat64.specs.Whole.{Parts6};
-ghost use Rattle.crossing.specs.Packet.{Packet4, flow_of};
-ghost use Rattle.crossing.specs.Nat44.{nat44};
-ghost use Rattle.crossing.specs.Flow.{Outward, IsOutward, IsOnAccess, in_core, ComesOf};
+ghost use Rattle.std.specs.Prelude.{◌<◌, Bool, ℕ, List};
+ghost use Rattle.octets.specs.declared.parcel.Parcel.{Parcel};
+ghost use Rattle.packets.specs.declared.packet6.Packet6.{Packet6};
+ghost use Rattle.crossing.specs.Named.{Portion};
+ghost use Rattle.crossing.specs.Pieces.{IsCutInto, AreBack, ComeTogether};
+ghost use Rattle.crossing.specs.Transfer.{Transfer, IsTaken, IsSentThere, IsBack, IsNoError, ComesOf, crossing_of};
 
-/// A whole TCP or UDP packet goes out through an edge, and the relay translates back what it reads on the access network.
-/// Then nothing but the named header changes stands between what it makes and the packet of the host, with the address and
-/// the port that the edge's machine answered.
-pub fn whole_flows_go_out_with_the_named_changes()
-    ensures { (w : Outward) (octets : List ℕ) (q : Parts6) (freed : List Freed) (replaced : Packet4)
-        → IsOutward w octets
-        → IsOnAccess w q
-        → nat44 (flow_of w.parts) (Out w.from w.port w.src6 w.dst6 freed) ≡ Some replaced
-        → ComesOf (record { taken = flow_of w.parts; replaced = replaced; mtus = w.mtus; number = w.number }) (in_core w q) }
+/// One node translates an IPv4 packet that it took to IPv6, and a second one takes these octets, or one of the pieces into which
+/// they were cut, and translates them back. Then nothing but the named header changes stands between what it sends and the
+/// packet, with the ends that the second node gave it. The packet is TCP or UDP, whole, a first or a later fragment, or an echo
+/// request or reply.
+pub fn packets_come_back_with_the_named_changes()
+    ensures { (t : Transfer) (octets six four : List ℕ) (portion : Portion) (at_relay : Bool) (q : Packet6)
+        → IsNoError t.taken.content
+        → IsTaken t octets
+        → IsSentThere t portion six
+        → IsBack t at_relay q six four
+        → ComesOf (crossing_of t) portion four }
+{}
+
+/// Where the second node drops and holds none of the pieces of a packet, their payloads are the whole payload with no gap, each
+/// at its place.
+pub fn pieces_come_back_as_the_whole_payload()
+    ensures { (t : Transfer) (octets : List ℕ) (at_relay : Bool) (pieces : List Parcel) (fours : List (List ℕ))
+        → IsTaken t octets
+        → t.taken.head.id < 65536
+        → IsCutInto t pieces
+        → AreBack t at_relay pieces fours
+        → ComeTogether (crossing_of t) fours }
 {}

@@ -3,4 +3,4 @@
 
 mod laws;
 
-pub use laws::whole_flows_go_out_with_the_named_changes;
+pub use laws::{packets_come_back_with_the_named_changes, pieces_come_back_as_the_whole_payload};

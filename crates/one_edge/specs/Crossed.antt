@@ -2,6 +2,7 @@
 use Rattle.std.specs.Prelude.{◌≡◌, ℕ, ◌+◌, ◌%◌, ◌^◌, List, [], ◌∷◌, Some}
 use Rattle.pcap_files.specs.declared.records.Record.{Record}
 use Rattle.pcap_files.specs.Written.{written}
+use Rattle.ip4_packet.specs.Grammar.{payload_of4}
 use Rattle.ip6_packet.specs.Grammar.{Is6}
 use Rattle.l4_headers.specs.declared.ports.Ports.{Ports}
 use Rattle.l4_headers.specs.Transport.{l4_of}
@@ -9,9 +10,10 @@ use Rattle.nat_model.specs.declared.answer.Answer.{Answer}
 use Rattle.nat_model.specs.declared.answer.Answer.TheVariants.{Out}
 use Rattle.xlat46.specs.Whole.{packet46}
 use Rattle.xlat64.specs.Whole.{Parts6, IsCarried6, packet64}
-use Rattle.crossing.specs.Packet.{Packet4, flow_of}
+use Rattle.packets.specs.declared.packet4.Content4.TheVariants.{Segment}
+use Rattle.packets.specs.declared.packet4.Packet4.{Packet4}
 use Rattle.crossing.specs.Nat44.{nat44}
-use Rattle.crossing.specs.Named.{Sent, Named, uncut}
+use Rattle.crossing.specs.Named.{Crossing, Sent, Named, uncut}
 use Rattle.one_edge.specs.declared.captures.Captures.{Captures}
 use Rattle.one_edge.specs.declared.taken.Taken.{Taken}
 use Rattle.one_edge.specs.Edge.{Edge, outside_port, own4, own6, far6}
@@ -25,13 +27,27 @@ ports_outside e inside = record { src = outside_port e inside.src; dst = inside.
 abbrev pub answer_of : Edge → Taken → Answer
 answer_of e t = Out (own4 e) (outside_port e t.ports.src) (own6 e) (far6 e t.head.dst) []
 
+-- the packet as it was read
+abbrev pub read_packet : Taken → List ℕ → Packet4
+read_packet t octets = record { head = t.head; content = Segment t.proto (l4_of t.proto (payload_of4 t.head octets)) }
+
+-- its crossing, with these addresses and ports in place of its own
+abbrev pub crossing_with : Edge → ℕ → Taken → List ℕ → Packet4 → Crossing
+crossing_with e number t octets replaced = record {
+  taken = read_packet t octets;
+  payload = payload_of4 t.head octets;
+  replaced = replaced;
+  mtus = e.mtus;
+  number = number;
+}
+
 -- between both ends of the way nothing differs but the named header changes
 pub record IsNamed (e : Edge) (number : ℕ) (t : Taken) (octets core : List ℕ) : Type 0 where
   pub replaced : Packet4
-  pub by_answer : nat44 (flow_of (parts_of t octets)) (answer_of e t) ≡ Some replaced
+  pub by_answer : nat44 (read_packet t octets) (answer_of e t) ≡ Some replaced
   pub whole : List ℕ
   pub sent : Sent
-  pub named : Named (record { taken = flow_of (parts_of t octets); replaced = replaced; mtus = e.mtus; number = number }) uncut whole sent
+  pub named : Named (crossing_with e number t octets replaced) uncut whole sent
   pub arrives : core ≡ sent.octets
 
 -- The record of this number, as it is on the access network and in the core. On the access network it goes from the

@@ -1,0 +1,312 @@
+-- The three directions of a crossing.
+use Rattle.std.proofs.Common.{◌≡◌, ℕ, ◌%◌, ◌^◌, ◌<◌, ◌⊎◌, Bool, true, false, cond, not, ◌||◌, ◌&&◌, List, [], ◌∷◌, inl, inr, Option, Some, None, refl, sym, ap, ◌∙◌, subst, arith}
+use Rattle.std.specs.Prelude.{Result, Ok, Err}
+use Rattle.std.proofs.lemmas.Bool.{false≢true}
+use Rattle.octets.specs.declared.address.Addr4.{Addr4}
+use Rattle.octets.specs.declared.address.Addr6.{Addr6}
+use Rattle.octets.specs.declared.cause.Cause.{Cause}
+use Rattle.octets.specs.declared.mtus.Mtus.{Mtus}
+use Rattle.octets.specs.declared.parcel.Parcel.{Parcel}
+use Rattle.octets.specs.declared.proto.Proto.{Proto}
+use Rattle.ip4_packet.specs.declared.head.Head4.{Head4}
+use Rattle.ip4_packet.specs.Grammar.{payload_of4}
+use Rattle.ip6_packet.specs.Grammar.{payload_of6}
+use Rattle.l4_headers.specs.declared.ports.Ports.{Ports}
+use Rattle.xlat46.specs.Head.{is_fragment}
+use Rattle.map_rules.specs.declared.dmr.Dmr.{Dmr}
+use Rattle.rule_book.specs.declared.view.FarOf.{FarOf}
+use Rattle.rule_book.specs.declared.view.FarOf.TheVariants.{Addr, Spoofed, NotDefault}
+use Rattle.rule_book.specs.Far.{has_addr6, far_of}
+use Rattle.icmp_xlat.specs.declared.ends.Ends.{Ends}
+use Rattle.nat_model.specs.declared.answer.Answer.{Answer}
+use Rattle.nat_model.specs.declared.answer.Answer.TheVariants.{Out, Turn, In, Kept, Held, Refused}
+use Rattle.nat_model.specs.Remote.{behind, found_behind}
+use Rattle.nat_model.specs.State.{Generation}
+use Rattle.packets.specs.declared.packet4.Content4.{Content4}
+use Rattle.packets.specs.declared.packet4.Packet4.{Packet4}
+use Rattle.packets.specs.declared.packet6.Content6.{Content6}
+use Rattle.packets.specs.declared.packet6.Content6.TheVariants.{Later as Later6}
+use Rattle.packets.specs.declared.packet6.Packet6.{Packet6}
+use Rattle.packets.specs.Packet6.{IsPacket6}
+use Rattle.packets.specs.Asked.{flow_of4, flow_of6}
+use Rattle.transit.specs.declared.passage.Passage.{Passage}
+use Rattle.transit.specs.declared.passage.Passage.TheVariants.{Sent, Cut, Spent, TooBig}
+use Rattle.transit.specs.Passage46.{IsPassage46, is_message4}
+use Rattle.transit.specs.Passage64.{translation64}
+use Rattle.edge_node.specs.Ends.{ends_out, ends_in, with_far_port}
+use Rattle.edge_node.specs.Asked.{near_addr6}
+use Rattle.relay_node.specs.Relay.{Relay, source_port, source_of, address_in, embedded_in}
+use Rattle.relay_node.specs.FromAccess.{ends64}
+use Rattle.relay_node.specs.FromIpv4.{ends46}
+use Rattle.crossing.specs.Nat44.{sent_from, received_at, content_from, content_to}
+use Rattle.crossing.specs.Named.{Portion, uncut, piece_at}
+use Rattle.crossing.specs.Transfer.{Transfer, IsTaken, IsThere, IsSentThere, IsBack, ComesOf, IsNoError, FitsEnds, packet_with, content_with}
+use Rattle.crossing.proofs.Over.{Seen, seen, over_crosses}
+use Rattle.trace_text.specs.Answered.{Step, AreRulesOf, AnsweredOut, AnsweredIn, rules_at}
+use Rattle.trace_text.specs.Behind.{ipv4_behind}
+use Rattle.trace_text.specs.Hops.{IsTaken4, FitsAnswer, EdgeSends, EdgeReceives, IsEmitted, RelaySends, RelayReceives}
+use Rattle.trace_text.specs.Crossings.{Passed, Domain, id_of, IsRelayOf, ToRelay, FromRelay, End, EdgeToEdge, IsOneStep, crossing_with}
+use Rattle.trace_text.proofs.Machine.{IsWayOut, IsWayIn, way_out, way_in}
+use Rattle.trace_text.proofs.Addresses.{accepted, holder_holds, embedded_holds, extracted_holds, reached_holds, one_behind}
+use Rattle.trace_text.proofs.Fits.{head_fits, id_fits, src_fits, dst_fits, ports_fit}
+use Rattle.trace_text.proofs.Ports.{near_fits, Replaces, source_replaced, source_given, destination_replaced, destination_given, both_replaced, both_given}
+
+-- ---- addresses
+
+address_told : (far : FarOf) (a : Addr4) → address_in far ≡ Some a → far ≡ Addr a
+address_told (Addr b) a e = cc
+address_told Spoofed a e = cc
+address_told NotDefault a e = cc
+
+-- the source that the relay accepts
+sourced : (relay : Relay) (s : Addr6) (port : ℕ) (a : Addr4) → source_of relay s port ≡ Some a → ipv4_behind relay.dmr s.0 ≡ Some a.0
+sourced relay s port a e = by (has_addr6 relay.dmr.prefix s.0) e
+  where
+    by : (b : Bool) → cond b None (address_in (far_of relay.rules relay.dmr s.0 port)) ≡ Some a → ipv4_behind relay.dmr s.0 ≡ Some a.0
+    by true is = cc
+    by false is = accepted relay.rules relay.dmr s.0 port a (address_told (far_of relay.rules relay.dmr s.0 port) a is)
+
+found_told : (far : FarOf) (a : Addr4) → found_behind far ≡ Ok a → far ≡ Addr a
+found_told (Addr b) a e = cc
+found_told Spoofed a e = cc
+found_told NotDefault a e = cc
+
+-- the address behind an IPv6 address that an edge accepts
+behind_holds : (book : Generation) (dmr : Dmr) (s port : ℕ) (a : Addr4) → book.dmr ≡ dmr → behind book s port ≡ Ok a → ipv4_behind dmr s ≡ Some a.0
+unfolding behind
+behind_holds book dmr s port a fixed e = subst (λ (d : Dmr). ipv4_behind d s ≡ Some a.0) fixed (accepted book.rules book.dmr s port a (found_told (far_of book.rules book.dmr s port) a e))
+
+-- what an edge's way out tells: both addresses over IPv6 hold those over IPv4
+record HoldsOut (dmr : Dmr) (from dst : Addr4) (src6 dst6 : Addr6) : Type 0 where
+  source : ipv4_behind dmr src6.0 ≡ Some from.0
+  destination : ipv4_behind dmr dst6.0 ≡ Some dst.0
+
+holds_out : (dmr : Dmr) (step : Step) (dst : Addr4) (from : Addr4) (port : ℕ) (src6 dst6 : Addr6) (freed : List Parcel) → AreRulesOf dmr (rules_at step) → dst.0 < 2 ^ 32
+    → AnsweredOut step dst (Out from port src6 dst6 freed) → HoldsOut dmr from dst src6 dst6
+holds_out dmr step dst from port src6 dst6 freed rules fits answered =
+    let way = way_out step.prefix step.state step.moment answered.fault answered.proto answered.near (record { addr = dst; port = answered.port }) answered.flags answered.part freed from port src6 dst6 answered.is in
+    let h = way.0 in
+    let own = holder_holds (rules_at step).rules dmr step.prefix h rules.fit rules.valid.apart_dmr way.1 in
+    record {
+      source = ap (λ (a : Addr6). ipv4_behind dmr a.0) way.2.src_is ∙ own.0 ∙ ap (λ (a : Addr4). some_number a.0) (sym way.2.from_is);
+      destination = ap (λ (a : Addr6). ipv4_behind dmr a.0) way.2.dst_is ∙ reached_holds (rules_at step) dmr dst.0 way.2.port rules fits;
+    }
+  where
+    some_number : ℕ → Option ℕ
+    some_number n = Some n
+
+-- ---- what comes of a transfer
+
+replaced_is : (p : Packet4) (ends : Ends Addr4) (src dst : Addr4) (content : Content4) → ends.src ≡ src → ends.dst ≡ dst → content_with ends p.content ≡ content
+    → packet_with ends p ≡ record { head = record p.head { src = src; dst = dst }; content = content }
+replaced_is p ends src dst content is_src is_dst is_content =
+    ap (λ (a : Addr4). record { head = record p.head { src = a; dst = ends.dst }; content = content_with ends p.content }) is_src
+    ∙ ap (λ (a : Addr4). record { head = record p.head { src = src; dst = a }; content = content_with ends p.content }) is_dst
+    ∙ ap (λ (c : Content4). record { head = record p.head { src = src; dst = dst }; content = c }) is_content
+
+-- ---- a crossing as a transfer
+
+abbrev transfer : Domain → Passed → Ends Addr6 → Ends Addr4 → Transfer
+transfer domain c six four = record {
+  taken = c.taken;
+  payload = payload_of4 c.taken.head c.octets;
+  six = six;
+  four = four;
+  mtus = domain.mtus;
+  number = domain.number;
+}
+
+taken_as : (domain : Domain) (c : Passed) (six : Ends Addr6) (four : Ends Addr4) → IsTaken4 c.taken c.octets → FitsEnds six → IsTaken (transfer domain c six four) c.octets
+taken_as domain c six four taken fits = record { is = taken.is; payload = refl; fits = head_fits c.taken.head c.octets taken.are taken.is.is.fields; six = fits }
+
+back_with : (mtus domain_mtus : Mtus) (id domain_id : ℕ) (q : Packet6) (six four : List ℕ) (ends : Ends Addr4) → mtus ≡ domain_mtus → id ≡ domain_id
+    → translation64 mtus q.head (payload_of6 q.head six) ends id q.content ≡ Some four → translation64 domain_mtus q.head (payload_of6 q.head six) ends domain_id q.content ≡ Some four
+back_with mtus domain_mtus id domain_id q six four ends one other is =
+    subst (λ (n : ℕ). translation64 domain_mtus q.head (payload_of6 q.head six) ends n q.content ≡ Some four) other
+    (subst (λ (m : Mtus). translation64 m q.head (payload_of6 q.head six) ends id q.content ≡ Some four) one is)
+
+-- what goes over the access network is the packet, or one of its pieces
+not_rigid : (a b : Bool) → (a || b) ≡ false → b ≡ false
+not_rigid true b e = absurd (false≢true (sym e))
+not_rigid false b e = e
+
+sent_there : (t : Transfer) (passage : Passage) (portion : Portion) (six : List ℕ) → t.taken.head.id < 65536 → IsPassage46 t.mtus t.taken t.payload t.six passage → IsEmitted t.mtus passage portion six → IsSentThere t portion six
+sent_there t (Sent octets) uncut six small is emitted = subst (λ (xs : List ℕ). IsThere t xs) emitted is.1
+sent_there t (Cut pieces) (piece_at at) six small is emitted = record {
+  octets = is.1.0;
+  there = is.1.1;
+  flows = not_rigid (not (is_fragment t.taken.head) && t.taken.head.df) (is_message4 t.taken.content) is.1.3;
+  id = small;
+  pieces = pieces;
+  cut = is.1.4;
+  k = emitted.0;
+  found = emitted.1;
+  begins = emitted.2;
+}
+sent_there t (Sent octets) (piece_at at) six small is emitted = absurd emitted
+sent_there t (Cut pieces) uncut six small is emitted = absurd emitted
+sent_there t Spent portion six small is emitted = absurd emitted
+sent_there t TooBig portion six small is emitted = absurd emitted
+
+-- a later fragment is translated back with any ports
+later_back : (mtus : Mtus) (id : ℕ) (q : Packet6) (six four : List ℕ) (src dst a b c d : Addr4) (ports others : Ports) (proto : Proto) → q.content ≡ Later6 proto
+    → translation64 mtus q.head (payload_of6 q.head six) (record { src = src; dst = dst; inner_src = a; inner_dst = b; ports = ports }) id q.content ≡ Some four
+    → translation64 mtus q.head (payload_of6 q.head six) (record { src = src; dst = dst; inner_src = c; inner_dst = d; ports = others }) id q.content ≡ Some four
+later_back mtus id q six four src dst a b c d ports others proto later is =
+    let plain = subst (λ (x : Content6). translation64 mtus q.head (payload_of6 q.head six) (record { src = src; dst = dst; inner_src = a; inner_dst = b; ports = ports }) id x ≡ Some four) later is in
+    subst (λ (x : Content6). translation64 mtus q.head (payload_of6 q.head six) (record { src = src; dst = dst; inner_src = c; inner_dst = d; ports = others }) id x ≡ Some four) (sym later) plain
+
+-- what the first node did, between these ends over IPv6
+record IsThrough (domain : Domain) (c : Passed) (six : Ends Addr6) : Type 0 where
+  fine : IsNoError c.taken.content
+  taken : IsTaken4 c.taken c.octets
+  fits : FitsEnds six
+  passage : IsPassage46 domain.mtus c.taken (payload_of4 c.taken.head c.octets) six c.passage
+  emitted : IsEmitted domain.mtus c.passage c.portion c.six
+
+over : (domain : Domain) (c : Passed) (six : Ends Addr6) (four : Ends Addr4) → IsThrough domain c six → IsSentThere (transfer domain c six four) c.portion c.six
+over domain c six four is = sent_there (transfer domain c six four) c.passage c.portion c.six (id_fits c.taken.head c.octets is.taken.are is.taken.is.is.fields) is.passage is.emitted
+
+sees : (domain : Domain) (c : Passed) (six : Ends Addr6) (four : Ends Addr4) (at_relay : Bool) → IsThrough domain c six → IsPacket6 at_relay c.read c.six → Seen (transfer domain c six four) c.read
+sees domain c six four at_relay is arrives = seen (transfer domain c six four) c.octets c.six c.portion at_relay c.read is.fine (taken_as domain c six four is.taken is.fits) (over domain c six four is) arrives
+
+-- what the second node did, between these ends over IPv4
+comes_of : (domain : Domain) (c : Passed) (six : Ends Addr6) (four : Ends Addr4) (at_relay : Bool) (src dst : Addr4) (content : Content4) → IsThrough domain c six → IsPacket6 at_relay c.read c.six → 1 < c.read.head.hop
+    → translation64 domain.mtus c.read.head (payload_of6 c.read.head c.six) four (id_of domain) c.read.content ≡ Some c.four
+    → four.src ≡ src → four.dst ≡ dst → Replaces c.taken.content four content → ComesOf (crossing_with domain c (record { head = record c.taken.head { src = src; dst = dst }; content = content })) c.portion c.four
+comes_of domain c six four at_relay src dst content is arrives lasts makes is_src is_dst replaces =
+    let t = transfer domain c six four in
+    let back : IsBack t at_relay c.read c.six c.four = record { is = arrives; lasts = lasts; ports = replaces.fits; back = makes } in
+    let comes = over_crosses t c.octets c.six c.four c.portion at_relay c.read is.fine (taken_as domain c six four is.taken is.fits) (over domain c six four is) back in
+    subst (λ (r : Packet4). ComesOf (crossing_with domain c r) c.portion c.four) (replaced_is c.taken four src dst content is_src is_dst replaces.is) comes
+
+-- ---- from an edge to the relay
+
+through_out : (domain : Domain) (c : Passed) (from : Addr4) (port : ℕ) (src6 dst6 : Addr6) (freed : List Parcel) → IsNoError c.taken.content → IsTaken4 c.taken c.octets → FitsAnswer (Out from port src6 dst6 freed)
+    → EdgeSends domain.mtus (Out from port src6 dst6 freed) c.taken c.octets c.passage → IsEmitted domain.mtus c.passage c.portion c.six → IsThrough domain c (ends_out (flow_of4 c.taken.content) port src6 dst6)
+through_out domain c from port src6 dst6 freed fine taken fits sent emitted =
+    let flow = flow_of4 c.taken.content in
+    record {
+      fine = fine;
+      taken = taken;
+      fits = record { src = fits.1; dst = fits.2; ports = near_fits flow.proto flow.fault port flow.ports fits.0 (ports_fit c.taken c.octets fine taken) };
+      passage = sent;
+      emitted = emitted;
+    }
+
+pub to_relay : (domain : Domain) (step : Step) (answer : Answer) (relay : Relay) (c : Passed) → IsNoError c.taken.content → ToRelay domain step answer relay c → IsOneStep domain (answer ∷ []) c
+to_relay domain step (Out from port src6 dst6 freed) relay c fine is =
+    let p = c.taken in
+    let q = c.read in
+    let got = is.received in
+    let flow4 = flow_of4 p.content in
+    let six = ends_out flow4 port src6 dst6 in
+    let plain = ends64 got.src got.dst got.ports in
+    let given = ends64 got.src got.dst six.ports in
+    let through = through_out domain c from port src6 dst6 freed fine is.taken is.fits is.sent is.emitted in
+    let saw = sees domain c six plain true through is.arrives in
+    let are = ports_fit p c.octets fine is.taken in
+    let holds = holds_out domain.dmr step p.head.dst from port src6 dst6 freed is.rules (dst_fits p.head c.octets is.taken.are is.taken.is.is.fields) is.answered in
+    let source : ipv4_behind domain.dmr src6.0 ≡ Some got.src.0 = subst (λ (d : Dmr). ipv4_behind d src6.0 ≡ Some got.src.0) is.relay_is.dmr (subst (λ (a : Addr6). ipv4_behind relay.dmr a.0 ≡ Some got.src.0) saw.ends.src (sourced relay q.head.src (source_port (flow_of6 q.content).fault got.ports) got.src got.source)) in
+    let destination : ipv4_behind domain.dmr dst6.0 ≡ Some got.dst.0 = subst (λ (d : Dmr). ipv4_behind d dst6.0 ≡ Some got.dst.0) is.relay_is.dmr (subst (λ (a : Addr6). ipv4_behind relay.dmr a.0 ≡ Some got.dst.0) saw.ends.dst (extracted_holds relay.dmr q.head.dst.0 got.dst.0 got.destination)) in
+    let src = one_behind domain.dmr src6.0 got.src from source holds.source in
+    let dst = one_behind domain.dmr dst6.0 got.dst p.head.dst destination holds.destination in
+    let makes = back_with relay.params.mtus domain.mtus relay.id (id_of domain) q c.six c.four plain is.relay_is.mtus is.relay_is.id got.is.1 in
+    record {
+      replaced = sent_from from port p;
+      by_answers = refl;
+      comes = elim saw.flow [
+        | inl flow ↦ comes_of domain c six plain true from p.head.dst (content_from from port p.content) through is.arrives got.is.0 makes src dst (source_replaced p.content port from plain q.content fine is.fits.0 are flow got.flow)
+        | inr later ↦ comes_of domain c six given true from p.head.dst (content_from from port p.content) through is.arrives got.is.0
+            (later_back domain.mtus (id_of domain) q c.six c.four got.src got.dst got.dst got.src got.dst got.src got.ports six.ports later.0 later.1 makes) src dst (source_given p.content port from given fine is.fits.0 are refl)
+      ];
+    }
+to_relay domain step (Turn from port freed) relay c fine is = absurd is.sent
+to_relay domain step (In to port from peer freed) relay c fine is = absurd is.sent
+to_relay domain step (Kept port until) relay c fine is = absurd is.sent
+to_relay domain step Held relay c fine is = absurd is.sent
+to_relay domain step (Refused cause freed) relay c fine is = absurd is.sent
+
+-- ---- to an edge
+
+-- the address that the edge finds behind the source
+from_told : (domain : Domain) (step : Step) (q : Packet6) (to : Addr4) (port : ℕ) (from peer : Addr4) (freed : List Parcel) → AreRulesOf domain.dmr (rules_at step)
+    → AnsweredIn step q.head.src (near_addr6 q q.content) (In to port from peer freed) → ipv4_behind domain.dmr q.head.src.0 ≡ Some from.0
+from_told domain step q to port from peer freed rules answered =
+    let way = way_in step.prefix step.state step.moment answered.fault answered.proto answered.port answered.dst q.head.src (near_addr6 q q.content) answered.far_port answered.flags answered.part freed to port from peer answered.is in
+    behind_holds (rules_at step) domain.dmr q.head.src.0 way.port from rules.fixed way.from_is
+
+passage_with : (mtus domain_mtus : Mtus) (p : Packet4) (payload : List ℕ) (ends : Ends Addr6) (passage : Passage) → mtus ≡ domain_mtus → IsPassage46 mtus p payload ends passage → IsPassage46 domain_mtus p payload ends passage
+passage_with mtus domain_mtus p payload ends passage same is = subst (λ (m : Mtus). IsPassage46 m p payload ends passage) same is
+
+pub from_relay : (domain : Domain) (relay : Relay) (step : Step) (answer : Answer) (c : Passed) → IsNoError c.taken.content → FromRelay domain relay step answer c → IsOneStep domain (answer ∷ []) c
+from_relay domain relay step (In to port from peer freed) c fine is =
+    let p = c.taken in
+    let q = c.read in
+    let flow4 = flow_of4 p.content in
+    let ports = is.sent.ports in
+    let six = ends46 relay p is.sent.own ports in
+    let plain = ends_in (flow_of6 q.content) to port from peer in
+    let given : Ends Addr4 = record { src = from; dst = to; inner_src = to; inner_dst = peer; ports = with_far_port flow4.proto flow4.fault port ports } in
+    let through : IsThrough domain c six = record { fine = fine; taken = is.taken; fits = is.sent.fits; passage = passage_with relay.params.mtus domain.mtus p (payload_of4 p.head c.octets) six c.passage is.relay_is.mtus is.sent.is; emitted = is.emitted } in
+    let saw = sees domain c six plain false through is.arrives in
+    let small = src_fits p.head c.octets is.taken.are is.taken.is.is.fields in
+    let told : ipv4_behind domain.dmr (embedded_in relay.dmr p.head.src).0 ≡ Some from.0 = subst (λ (a : Addr6). ipv4_behind domain.dmr a.0 ≡ Some from.0) saw.ends.src (from_told domain step q to port from peer freed is.rules is.answered) in
+    let holds : ipv4_behind domain.dmr (embedded_in relay.dmr p.head.src).0 ≡ Some p.head.src.0 = subst (λ (d : Dmr). ipv4_behind d (embedded_in relay.dmr p.head.src).0 ≡ Some p.head.src.0) is.relay_is.dmr (embedded_holds relay.dmr p.head.src.0 small) in
+    let src = one_behind domain.dmr (embedded_in relay.dmr p.head.src).0 from p.head.src told holds in
+    let makes = is.received.1 in
+    record {
+      replaced = received_at to port p;
+      by_answers = refl;
+      comes = elim saw.flow [
+        | inl flow ↦ comes_of domain c six plain false p.head.src to (content_to to port p.content) through is.arrives is.received.0 makes src refl (destination_replaced p.content ports port to plain q.content fine is.fits is.sent.fits.ports is.sent.flow flow refl)
+        | inr later ↦ comes_of domain c six given false p.head.src to (content_to to port p.content) through is.arrives is.received.0
+            (later_back domain.mtus (id_of domain) q c.six c.four from to to peer to peer plain.ports given.ports later.0 later.1 makes) src refl (destination_given p.content ports port to given fine is.fits is.sent.fits.ports is.sent.flow refl)
+      ];
+    }
+from_relay domain relay step (Out from port src6 dst6 freed) c fine is = absurd is.received
+from_relay domain relay step (Turn from port freed) c fine is = absurd is.received
+from_relay domain relay step (Kept port until) c fine is = absurd is.received
+from_relay domain relay step Held c fine is = absurd is.received
+from_relay domain relay step (Refused cause freed) c fine is = absurd is.received
+
+pub edge_to_edge : (domain : Domain) (one other : End) (c : Passed) → IsNoError c.taken.content → EdgeToEdge domain one other c → IsOneStep domain (one.answer ∷ other.answer ∷ []) c
+edge_to_edge domain one other c fine is = by one.answer other.answer is.out is.fits_out is.sent is.inward is.fits_in is.received
+  where
+    by : (out inward : Answer) → AnsweredOut one.step c.taken.head.dst out → FitsAnswer out → EdgeSends domain.mtus out c.taken c.octets c.passage
+        → AnsweredIn other.step c.read.head.src (near_addr6 c.read c.read.content) inward → FitsAnswer inward → EdgeReceives domain.mtus (id_of domain) inward c.read c.six (Sent c.four)
+        → IsOneStep domain (out ∷ inward ∷ []) c
+    by (Out out_from out_port src6 dst6 out_freed) (In to port from peer freed) answered fits sent answered_in fits_in received =
+        let p = c.taken in
+        let q = c.read in
+        let flow4 = flow_of4 p.content in
+        let six = ends_out flow4 out_port src6 dst6 in
+        let plain = ends_in (flow_of6 q.content) to port from peer in
+        let given : Ends Addr4 = record { src = from; dst = to; inner_src = to; inner_dst = peer; ports = with_far_port flow4.proto flow4.fault port six.ports } in
+        let through = through_out domain c out_from out_port src6 dst6 out_freed fine is.taken fits sent is.emitted in
+        let saw = sees domain c six plain false through is.arrives in
+        let are = ports_fit p c.octets fine is.taken in
+        let holds = holds_out domain.dmr one.step p.head.dst out_from out_port src6 dst6 out_freed is.rules_out (dst_fits p.head c.octets is.taken.are is.taken.is.is.fields) answered in
+        let told : ipv4_behind domain.dmr src6.0 ≡ Some from.0 = subst (λ (a : Addr6). ipv4_behind domain.dmr a.0 ≡ Some from.0) saw.ends.src (from_told domain other.step q to port from peer freed is.rules_in answered_in) in
+        let src = one_behind domain.dmr src6.0 from out_from told holds.source in
+        let content = content_to to port (content_from out_from out_port p.content) in
+        let makes = received.1 in
+        record {
+          replaced = received_at to port (sent_from out_from out_port p);
+          by_answers = refl;
+          comes = elim saw.flow [
+            | inl flow ↦ comes_of domain c six plain false out_from to content through is.arrives received.0 makes src refl (both_replaced p.content out_port port out_from to plain q.content fine fits.0 fits_in are flow refl)
+            | inr later ↦ comes_of domain c six given false out_from to content through is.arrives received.0
+                (later_back domain.mtus (id_of domain) q c.six c.four from to to peer to peer plain.ports given.ports later.0 later.1 makes) src refl (both_given p.content out_port port out_from to given fine fits.0 fits_in are refl)
+          ];
+        }
+    by (Out out_from out_port src6 dst6 out_freed) (Out from port src dst freed) answered fits sent answered_in fits_in received = absurd received
+    by (Out out_from out_port src6 dst6 out_freed) (Turn from port freed) answered fits sent answered_in fits_in received = absurd received
+    by (Out out_from out_port src6 dst6 out_freed) (Kept port until) answered fits sent answered_in fits_in received = absurd received
+    by (Out out_from out_port src6 dst6 out_freed) Held answered fits sent answered_in fits_in received = absurd received
+    by (Out out_from out_port src6 dst6 out_freed) (Refused cause freed) answered fits sent answered_in fits_in received = absurd received
+    by (In to port from peer freed) inward answered fits sent answered_in fits_in received = absurd sent
+    by (Turn from port freed) inward answered fits sent answered_in fits_in received = absurd sent
+    by (Kept port until) inward answered fits sent answered_in fits_in received = absurd sent
+    by Held inward answered fits sent answered_in fits_in received = absurd sent
+    by (Refused cause freed) inward answered fits sent answered_in fits_in received = absurd sent

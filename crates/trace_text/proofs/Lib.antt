@@ -1,0 +1,5 @@
+pub mod Machine
+pub mod Addresses
+pub mod Fits
+pub mod Ports
+pub mod Directions

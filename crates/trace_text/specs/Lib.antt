@@ -1,0 +1,4 @@
+pub mod Answered
+pub mod Behind
+pub mod Hops
+pub mod Crossings
