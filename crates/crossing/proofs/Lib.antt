@@ -12,4 +12,5 @@ pub mod Pieces
 pub mod Together
 pub mod Uncut
 pub mod Over
+pub mod Inner
 pub mod Trials
