@@ -35,7 +35,7 @@ use Rattle.crossing.proofs.Piece.{length-part, word_first, three_front, with_l4-
 
 -- ---- TCP of which at least the sum stands
 
-tcp_read : (payload : List ℕ) (ports : Ports) (sum : ℕ) → 18 ≤ length payload → ArePorts ports → sum < 65536
+pub tcp_read : (payload : List ℕ) (ports : Ports) (sum : ℕ) → 18 ≤ length payload → ArePorts ports → sum < 65536
     → (word (with_l4 Tcp payload ports sum) 0 ≡ ports.src) × (word (with_l4 Tcp payload ports sum) 2 ≡ ports.dst) × (word (with_l4 Tcp payload ports sum) 16 ≡ sum)
 tcp_read payload ports sum stands are fits =
     let x0 = with_word 0 ports.src payload in
@@ -47,7 +47,7 @@ tcp_read payload ports sum stands are fits =
       word-with_word 16 sum x2 (omega arith) fits,
     )
 
-tcp_length : (payload : List ℕ) (ports : Ports) (sum : ℕ) → 18 ≤ length payload → length (with_l4 Tcp payload ports sum) ≡ length payload
+pub tcp_length : (payload : List ℕ) (ports : Ports) (sum : ℕ) → 18 ≤ length payload → length (with_l4 Tcp payload ports sum) ≡ length payload
 tcp_length payload ports sum stands =
     let x0 = with_word 0 ports.src payload in
     let x2 = with_word 2 ports.dst x0 in
@@ -179,11 +179,11 @@ udp_twice payload room before mid after one other k l m stands fits are =
 abbrev echo_of : List ℕ → ℕ → ℕ → ℕ → List ℕ
 echo_of rest kind sum port = kind ∷ 0 ∷ in_word sum ++ in_word port ++ rest
 
-echo_word : (rest : List ℕ) (kind sum port : ℕ) → sum < 65536 → port < 65536
+pub echo_word : (rest : List ℕ) (kind sum port : ℕ) → sum < 65536 → port < 65536
     → (word (echo_of rest kind sum port) 0 ≡ kind * 256) × (word (echo_of rest kind sum port) 2 ≡ sum) × (word (echo_of rest kind sum port) 4 ≡ port)
 echo_word rest kind sum port low small = (omega arith, number_back 2 sum (in_word port ++ rest) low, number_back 2 port rest small)
 
-echo_sum_fits : (payload : List ℕ) (change : Change) → echo_sum payload change < 65536
+pub echo_sum_fits : (payload : List ℕ) (change : Change) → echo_sum payload change < 65536
 unfolding echo_sum
 echo_sum_fits payload change = adjusted_fits (word payload 2) (change.before + (word payload 0 + word payload 4)) (change.after + (256 * change.kind + change.ports.src))
 

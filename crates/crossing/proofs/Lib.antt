@@ -14,4 +14,5 @@ pub mod Uncut
 pub mod Over
 pub mod Inner
 pub mod Longer
+pub mod Embedded
 pub mod Trials
