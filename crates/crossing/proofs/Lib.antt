@@ -15,4 +15,5 @@ pub mod Over
 pub mod Inner
 pub mod Longer
 pub mod Embedded
+pub mod Error
 pub mod Trials
