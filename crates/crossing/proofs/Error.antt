@@ -1,12 +1,14 @@
 -- ICMP errors, there and back.
-use Rattle.std.proofs.Common.{◌≡◌, ◌≢◌, ◌⊎◌, ℕ, ◌+◌, ◌*◌, ◌-◌, ◌/◌, ◌%◌, ◌^◌, ◌<◌, ◌≤◌, Bool, true, false, cond, not, ◌||◌, ◌&&◌, List, length, take, Option, Some, None, inl, inr, refl, sym, ap, ◌∙◌, subst, arith}
-use Rattle.std.specs.Prelude.{◌==◌, option_and_then}
+use Rattle.std.proofs.Common.{◌≡◌, ◌≢◌, ◌⊎◌, ℕ, ◌+◌, ◌*◌, ◌-◌, ◌/◌, ◌%◌, ◌^◌, ◌<◌, ◌≤◌, Bool, true, false, cond, not, ◌||◌, ◌&&◌, List, length, take, min, Option, Some, None, inl, inr, refl, sym, ap, ◌∙◌, subst, arith}
+use Rattle.std.specs.Prelude.{◌==◌, nat_le, option_and_then}
 use Rattle.std.specs.Option.{option_map}
 use Rattle.std.proofs.lemmas.List.{length-take}
 use Rattle.octets.specs.declared.address.Addr4.{Addr4}
 use Rattle.octets.specs.declared.address.Addr6.{Addr6}
 use Rattle.octets.specs.declared.mtus.Mtus.{Mtus}
 use Rattle.octets.specs.declared.proto.Proto.{Proto}
+use Rattle.octets.specs.declared.proto.Proto.TheVariants.{Tcp, Udp, Icmp}
+use Rattle.xlat46.specs.Whole.{ArePorts}
 use Rattle.ip4_packet.specs.declared.head.Head4.{Head4}
 use Rattle.ip4_packet.specs.Grammar.{payload_of4}
 use Rattle.ip4_packet.specs.Written.{written4}
@@ -17,7 +19,7 @@ use Rattle.icmp_messages.specs.declared.icmp4.Icmp4.{Icmp4}
 use Rattle.icmp_messages.specs.declared.icmp6.Icmp6.{Icmp6}
 use Rattle.icmp_messages.specs.declared.inner4.Inner4.{Inner4}
 use Rattle.icmp_messages.specs.declared.inner6.Inner6.{Inner6}
-use Rattle.icmp_messages.specs.Inner.{IsInner4, IsInner6, IsCarried6}
+use Rattle.icmp_messages.specs.Inner.{IsInner4, IsInner6, IsCarried4, IsCarried6}
 use Rattle.icmp_messages.specs.Message.{message4, message6}
 use Rattle.xlat46.specs.Head.{is_fragment, upper_protocol}
 use Rattle.xlat64.specs.Head.{protocol_of, translated as translated64}
@@ -41,10 +43,10 @@ use Rattle.packets.proofs.Spared6.{icmp_alone}
 use Rattle.transit.specs.Passage46.{translation46, error_packet46}
 use Rattle.transit.specs.Passage64.{translation64, error_packet64}
 use Rattle.transit.proofs.Room.{length-written4}
-use Rattle.crossing.specs.Named.{IsPayload, IsMessage, IsErrorAfter, rest_after, inner_after, inner_head, inner_room, inner_total, uncut}
+use Rattle.crossing.specs.Named.{IsPayload, IsMessage, IsErrorAfter, rest_after, inner_after, inner_head, inner_room, inner_total, inner_change, uncut}
 use Rattle.crossing.specs.Transfer.{Transfer, FitsHead, FitsContent, IsTaken, IsThere, IsBack, ComesOf, crossing_of, content_with, inner_with}
 use Rattle.crossing.proofs.Embedded.{FitsInner, ReadsInner, reads_inner, one_proto}
-use Rattle.crossing.proofs.Heads.{payload_len_is, some_same, frag_of, offset_there, more_there, head_there, head_back, IsLaid, laid_inside, between, named_uncut}
+use Rattle.crossing.proofs.Heads.{id_twice, df_twice, payload_len_is, some_same, frag_of, offset_there, more_there, head_there, head_back, IsLaid, laid_inside, between, named_uncut}
 use Rattle.crossing.proofs.Inner.{inner_there, payload_back}
 use Rattle.crossing.proofs.Piece.{length-part}
 use Rattle.crossing.proofs.Query.{IsRead, is_read, found_by, length-message4, length-message6, upper_58}
@@ -194,3 +196,95 @@ sees_error t m row inner octets six at_relay q taken laid is =
       inside = inside;
       proto_is = one_proto inner.proto one.inner.proto inner.head.proto inner.payload one.inner.payload laid.fits.carried (subst (λ (g : Head6). IsCarried6 one.inner.proto g.upper one.inner.payload) inside.head one.embedded.carried);
     }
+
+-- ---- the embedded packet, back
+
+-- the embedded header is that of the table
+head_is : (total other proto number : ℕ) (id identification : ℕ) (df dont : Bool) (mf more : Bool) (offset at : ℕ) (tos ttl : ℕ) (src dst : Addr4) → total ≡ other → proto ≡ number → id ≡ identification → df ≡ dont → mf ≡ more → offset ≡ at
+    → ◌≡◌ {A = Head4} (record { tos = tos; id = id; df = df; mf = mf; offset = offset; ttl = ttl; proto = proto; src = src; dst = dst; head_len = 20; total = total; routed = false })
+    (record { tos = tos; id = identification; df = dont; mf = more; offset = at; ttl = ttl; proto = number; src = src; dst = dst; head_len = 20; total = other; routed = false })
+head_is total other proto number id identification df dont mf more offset at tos ttl src dst a b c d e f = rw (a, b, c, d, e, f) refl
+
+upper_back : (proto : Proto) (number : ℕ) (payload : List ℕ) → IsCarried4 proto number payload → protocol_of (upper_protocol number) ≡ number
+upper_back Tcp number payload is = rw is refl
+upper_back Udp number payload is = rw is refl
+upper_back Icmp number payload is = rw is.0 refl
+
+inner_head_back : (inner : Inner4) (six : Ends Addr6) (four : Ends Addr4) (room : ℕ) (ports : Ports) → FitsInner inner six → inner_head64 (inner_there inner six room ports) four ≡ inner_head (inner_with four inner).head
+inner_head_back inner six four room ports fit =
+    let h = inner.head in
+    let total : min (20 + (h.total - h.head_len)) 65535 ≡ 20 + (h.total - h.head_len) = omega (arith, fit.head.total, fit.least) in
+    head_is _ _ _ _ _ _ _ _ _ _ _ _ h.tos h.ttl four.inner_src four.inner_dst total (upper_back inner.proto h.proto inner.payload fit.carried)
+    (id_twice (is_fragment h) (frag_of h) 0 fit.head.id)
+    (df_twice (is_fragment h) (frag_of h) (min (20 + (h.total - h.head_len)) 65535) ∙ ap (λ (n : ℕ). not (is_fragment h) && not (nat_le n 1260)) total)
+    (more_there h) (offset_there h)
+
+-- the packet that was read there
+same_inner : (inner : Inner4) (six : Ends Addr6) (n : Inner6) → ReadsInner inner six n → n.proto ≡ inner.proto → n ≡ inner_there inner six (inner_room inner.head) n.ports
+same_inner inner six n is proto =
+    let made : Inner6 = record { head = n.head; payload = n.payload; ports = n.ports; proto = n.proto } in
+    let first : n ≡ made = refl in
+    first ∙ rw (is.head, is.payload, proto) refl
+
+room_long : (b : Bool) → 20 ≤ 1280 - (40 + 8 + cond b 48 40)
+room_long true = omega arith
+room_long false = omega arith
+
+inner_back : (inner : Inner4) (six : Ends Addr6) (four : Ends Addr4) (n : Inner6) → FitsInner inner six → ArePorts six.ports → ReadsInner inner six n → n.proto ≡ inner.proto → inner64 n four ≡ inner_after inner (inner_with four inner)
+inner_back inner six four n fit are is proto =
+    let room = inner_room inner.head in
+    let there = inner_there inner six room n.ports in
+    let same = same_inner inner six n is proto in
+    ap (λ (x : Inner6). inner64 x four) same
+    ∙ ap (λ (xs : List ℕ). written4 (inner_head64 there four) xs) (payload_back inner six four room n.ports (room_long (is_fragment inner.head)) fit.stands are fit.carried)
+    ∙ ap (λ (h : Head4). written4 h (take room (inner_payload inner.proto inner.payload (inner_change inner (inner_with four inner) inner.proto)))) (inner_head_back inner six four room n.ports fit)
+
+-- ---- the error, back
+
+rest_back : (mtus : Mtus) (h : Head6) (n : Icmp6) (row : Row) (inner : Inner6) (ends : Ends Addr4) (id : ℕ) (four : List ℕ) (found : Option ℕ) → option_map (λ rest. with_message64 h (error64 row rest inner ends) ends id) found ≡ Some four
+    → (rest : ℕ) × (found ≡ Some rest) × (with_message64 h (error64 row rest inner ends) ends id ≡ four)
+rest_back mtus h n row inner ends id four None e = absurd (none_sent four e)
+  where
+    none_sent : (xs : List ℕ) → ◌≡◌ {A = Option (List ℕ)} None (Some xs) → ⊥
+    none_sent xs is = cc
+rest_back mtus h n row inner ends id four (Some rest) e = (rest, refl, some_same (with_message64 h (error64 row rest inner ends) ends id) four e)
+
+pub error_crosses : (t : Transfer) (m : Icmp4) (row : Row) (inner : Inner4) (octets six four : List ℕ) (at_relay : Bool) (q : Packet6) → t.taken.content ≡ Error4 m row inner
+    → IsTaken t octets → IsThere t six → IsBack t at_relay q six four → ComesOf (crossing_of t) uncut four
+error_crosses t m row inner octets six four at_relay q e taken there back =
+    let id = t.number % 2 ^ 16 in
+    let laid = error_laid t m row inner octets six e taken there in
+    let m6 = error46 row laid.rest inner t.six in
+    let over = message6 t.six.src t.six.dst m6 in
+    let read = between t octets over six four at_relay q taken laid.laid back in
+    let sees = sees_error t m row inner octets six at_relay q taken laid back.is in
+    let one = sees.one in
+    let n = one.message in
+    let head6 = head_there t (length over) in
+    let told = rest_back t.mtus head6 n one.row one.inner t.four id four (rest64 t.mtus n.rest one.row.rest) (subst (λ (c : Content6). translation64 t.mtus head6 over t.four id c ≡ Some four) one.is read.back) in
+    let rest : ℕ = told.0 in
+    let new : Icmp4 = error64 one.row rest one.inner t.four in
+    let whole = message4 new in
+    let body : new.body ≡ inner_after inner (inner_with t.four inner) = inner_back inner t.six t.four one.inner laid.fits taken.six.ports sees.inside sees.proto_is in
+    let long : length whole ≡ 8 + length new.body = length-message4 new in
+    let size : length new.body ≤ 1212 = short inner (inner_with t.four inner) new.body body in
+    let after : rest_after t.mtus inner.head.total m.rest row.rest ≡ Some rest = rest_told t.mtus inner.head.total m.rest laid.rest rest row.rest one.row.rest sees.again laid.rest_is (subst (λ (k : ℕ). rest64 t.mtus k one.row.rest ≡ Some rest) one.read.rest told.1) in
+    let message : IsMessage m new whole = record { there = row; back = one.row; first = laid.found; second = one.found; kind = refl; code = refl; sum = refl } in
+    let error : IsErrorAfter t.mtus m inner (inner_with t.four inner) whole = record { told = new; message = message; rest = after; body = body } in
+    record {
+      whole = whole;
+      sent = record { head = head_back t (length whole); payload = whole; octets = written4 (head_back t (length whole)) whole };
+      named = named_uncut t whole taken.fits read.lasts (omega (arith, long, size)) (subst (λ (k : ℕ). protocol_of (upper_protocol k) ≡ k) (sym laid.protocol) refl)
+      (subst (λ (c : Content4). IsPayload (crossing_of t) c (content_with t.four c) whole) (sym e) error);
+      octets_are = sym told.2 ∙ ap (λ (k : ℕ). written4 (head_back t k) whole) (sym long);
+    }
+  where
+    room_short : (b : Bool) → 1280 - (40 + 8 + cond b 48 40) ≤ 1192
+    room_short true = omega arith
+    room_short false = omega arith
+
+    short : (taken new : Inner4) (xs : List ℕ) → xs ≡ inner_after taken new → length xs ≤ 1212
+    short taken new xs is =
+        let room = inner_room new.head in
+        let payload = inner_payload new.proto new.payload (inner_change taken new new.proto) in
+        omega (arith, ap (λ (ys : List ℕ). length ys) is, length-written4 (inner_head new.head) (take room payload), length-take room payload, room_short (is_fragment new.head))

@@ -42,11 +42,11 @@ some_same a b e = cc
 abbrev pub frag_of : Head4 → Frag6
 frag_of h = record { offset = h.offset; more = h.mf; id = h.id }
 
-id_twice : (b : Bool) (frag : Frag6) (id : ℕ) → (b ≡ true → frag.id < 65536) → identification64 (cond b (Some frag) None) id ≡ cond b frag.id id
+pub id_twice : (b : Bool) (frag : Frag6) (id : ℕ) → (b ≡ true → frag.id < 65536) → identification64 (cond b (Some frag) None) id ≡ cond b frag.id id
 id_twice true frag id fits = omega (arith, fits refl)
 id_twice false frag id fits = refl
 
-df_twice : (b : Bool) (frag : Frag6) (total : ℕ) → dont_fragment64 (cond b (Some frag) None) total ≡ (not b && not (nat_le total 1260))
+pub df_twice : (b : Bool) (frag : Frag6) (total : ℕ) → dont_fragment64 (cond b (Some frag) None) total ≡ (not b && not (nat_le total 1260))
 df_twice true frag total = refl
 df_twice false frag total = refl
 
