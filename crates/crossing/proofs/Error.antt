@@ -15,6 +15,7 @@ use Rattle.ip4_packet.specs.Written.{written4}
 use Rattle.ip6_packet.specs.declared.head.Head6.{Head6}
 use Rattle.ip6_packet.specs.Written.{written6}
 use Rattle.l4_headers.specs.declared.ports.Ports.{Ports}
+use Rattle.l4_headers.specs.Transport.{l4_of}
 use Rattle.icmp_messages.specs.declared.icmp4.Icmp4.{Icmp4}
 use Rattle.icmp_messages.specs.declared.icmp6.Icmp6.{Icmp6}
 use Rattle.icmp_messages.specs.declared.inner4.Inner4.{Inner4}
@@ -31,7 +32,7 @@ use Rattle.icmp_xlat.specs.Table.{table46, table64, row_of, pointers46, pointers
 use Rattle.icmp_xlat.specs.Mtu.{mtu46, mtu64}
 use Rattle.icmp_xlat.specs.Icmp46.{rest46, error46, embedded46, with_message46}
 use Rattle.icmp_xlat.specs.Icmp64.{rest64, error64, embedded64, with_message64}
-use Rattle.icmp_xlat.specs.Inner.{inner46, inner64, inner_head46, inner_head64, inner_payload, change64}
+use Rattle.icmp_xlat.specs.Inner.{inner46, inner64, inner_head46, inner_head64, inner_payload, change46, change64}
 use Rattle.packets.specs.declared.packet4.Content4.{Content4}
 use Rattle.packets.specs.declared.packet4.Content4.TheVariants.{Error as Error4}
 use Rattle.packets.specs.declared.packet6.Content6.{Content6}
@@ -47,7 +48,7 @@ use Rattle.crossing.specs.Named.{IsPayload, IsMessage, IsErrorAfter, rest_after,
 use Rattle.crossing.specs.Transfer.{Transfer, FitsHead, FitsContent, IsTaken, IsThere, IsBack, ComesOf, crossing_of, content_with, inner_with}
 use Rattle.crossing.proofs.Embedded.{FitsInner, ReadsInner, reads_inner, one_proto}
 use Rattle.crossing.proofs.Heads.{id_twice, df_twice, payload_len_is, some_same, frag_of, offset_there, more_there, head_there, head_back, IsLaid, laid_inside, between, named_uncut}
-use Rattle.crossing.proofs.Inner.{inner_there, payload_back}
+use Rattle.crossing.proofs.Inner.{inner_there, payload_back, inner_ports, ports_read}
 use Rattle.crossing.proofs.Piece.{length-part}
 use Rattle.crossing.proofs.Query.{IsRead, is_read, found_by, length-message4, length-message6, upper_58}
 use Rattle.crossing.proofs.Rows.{rest_again, row_again, no_length, pointer_small}
@@ -288,3 +289,45 @@ error_crosses t m row inner octets six four at_relay q e taken there back =
         let room = inner_room new.head in
         let payload = inner_payload new.proto new.payload (inner_change taken new new.proto) in
         omega (arith, ap (λ (ys : List ℕ). length ys) is, length-written4 (inner_head new.head) (take room payload), length-take room payload, room_short (is_fragment new.head))
+
+-- ---- the flow that is read
+
+pub record ReadsError (inner : Inner4) (six : Ends Addr6) (q : Content6) : Type 0 where
+  pub message : Icmp6
+  pub row : Row
+  pub about : Inner6
+  pub is : q ≡ Error6 message row about
+  pub proto_is : about.proto ≡ inner.proto
+  pub ports_are : about.ports ≡ inner_ports inner.proto six.ports
+  pub far : about.head.dst ≡ six.inner_dst
+
+pub error_flow : (t : Transfer) (m : Icmp4) (row : Row) (inner : Inner4) (octets six : List ℕ) (at_relay : Bool) (q : Packet6) → t.taken.content ≡ Error4 m row inner
+    → IsTaken t octets → IsThere t six → IsPacket6 at_relay q six → ReadsError inner t.six q.content
+error_flow t m row inner octets six at_relay q e taken there is =
+    let laid = error_laid t m row inner octets six e taken there in
+    let sees = sees_error t m row inner octets six at_relay q taken laid is in
+    let one = sees.one in
+    let n = one.inner in
+    record {
+      message = one.message;
+      row = one.row;
+      about = n;
+      is = one.is;
+      proto_is = sees.proto_is;
+      ports_are = one.embedded.ports
+      ∙ ap (λ (p : Proto). (l4_of p n.payload).ports) sees.proto_is
+      ∙ ap (λ (xs : List ℕ). (l4_of inner.proto xs).ports) sees.inside.payload
+      ∙ ports_read inner.proto inner.payload (inner_room inner.head) (change46 inner t.six inner.proto) (room_long (is_fragment inner.head)) laid.fits.stands (ports_given inner t.six inner.proto taken.six.ports)
+      ∙ ap (λ (ports : Ports). inner_ports inner.proto ports) (given inner t.six inner.proto);
+      far = ap (λ (h : Head6). h.dst) sees.inside.head;
+    }
+  where
+    given : (i : Inner4) (ends : Ends Addr6) (p : Proto) → (change46 i ends p).ports ≡ ends.ports
+    given i ends Tcp = refl
+    given i ends Udp = refl
+    given i ends Icmp = refl
+
+    ports_given : (i : Inner4) (ends : Ends Addr6) (p : Proto) → ArePorts ends.ports → ArePorts (change46 i ends p).ports
+    ports_given i ends Tcp are = are
+    ports_given i ends Udp are = are
+    ports_given i ends Icmp are = are
