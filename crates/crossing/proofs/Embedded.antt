@@ -137,9 +137,9 @@ head_read inner six n fit has =
     let rest = inner.head.total - inner.head.head_len - length body in
     let more = drop 1232 packet ++ zeros rest in
     let all : take 1232 packet ++ more ≡ written6 h (filled inner six) =
-        sym (append_assoc (take 1232 packet) (drop 1232 packet) (zeros rest))
-        ∙ ap (λ (xs : List ℕ). xs ++ zeros rest) (take-append-drop 1232 packet)
-        ∙ written_more h body (zeros rest) in
+    sym (append_assoc (take 1232 packet) (drop 1232 packet) (zeros rest))
+    ∙ ap (λ (xs : List ℕ). xs ++ zeros rest) (take-append-drop 1232 packet)
+    ∙ written_more h body (zeros rest) in
     let six_at : octet (take 1232 packet) 6 ≡ next_header h.upper h.frag = octet_front packet 1232 6 (omega arith) in
     let plain : is_sized (octet (take 1232 packet) 6) ≡ false = ap (λ (k : ℕ). is_sized k) six_at ∙ next_plain h.upper (is_fragment inner.head) (frag_of inner.head) (upper_is inner.proto inner.head.proto inner.payload fit.carried) in
     let longer = headers_more n.head (take 1232 packet) more plain has in

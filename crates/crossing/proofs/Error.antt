@@ -276,7 +276,7 @@ error_crosses t m row inner octets six four at_relay q e taken there back =
       whole = whole;
       sent = record { head = head_back t (length whole); payload = whole; octets = written4 (head_back t (length whole)) whole };
       named = named_uncut t whole taken.fits read.lasts (omega (arith, long, size)) (subst (λ (k : ℕ). protocol_of (upper_protocol k) ≡ k) (sym laid.protocol) refl)
-      (subst (λ (c : Content4). IsPayload (crossing_of t) c (content_with t.four c) whole) (sym e) error);
+          (subst (λ (c : Content4). IsPayload (crossing_of t) c (content_with t.four c) whole) (sym e) error);
       octets_are = sym told.2 ∙ ap (λ (k : ℕ). written4 (head_back t k) whole) (sym long);
     }
   where
@@ -315,10 +315,10 @@ error_flow t m row inner octets six at_relay q e taken there is =
       is = one.is;
       proto_is = sees.proto_is;
       ports_are = one.embedded.ports
-      ∙ ap (λ (p : Proto). (l4_of p n.payload).ports) sees.proto_is
-      ∙ ap (λ (xs : List ℕ). (l4_of inner.proto xs).ports) sees.inside.payload
-      ∙ ports_read inner.proto inner.payload (inner_room inner.head) (change46 inner t.six inner.proto) (room_long (is_fragment inner.head)) laid.fits.stands (ports_given inner t.six inner.proto taken.six.ports)
-      ∙ ap (λ (ports : Ports). inner_ports inner.proto ports) (given inner t.six inner.proto);
+          ∙ ap (λ (p : Proto). (l4_of p n.payload).ports) sees.proto_is
+          ∙ ap (λ (xs : List ℕ). (l4_of inner.proto xs).ports) sees.inside.payload
+          ∙ ports_read inner.proto inner.payload (inner_room inner.head) (change46 inner t.six inner.proto) (room_long (is_fragment inner.head)) laid.fits.stands (ports_given inner t.six inner.proto taken.six.ports)
+          ∙ ap (λ (ports : Ports). inner_ports inner.proto ports) (given inner t.six inner.proto);
       far = ap (λ (h : Head6). h.dst) sees.inside.head;
     }
   where

@@ -77,8 +77,8 @@ tcp_long payload room before mid after one other stands fits are =
     let size = tcp_length payload one s1 stands in
     let s2 = readdressed_sum Tcp (l4_of Tcp cut) mid after other in
     let sum : s2 ≡ readdressed_sum Tcp (l4_of Tcp payload) before after other =
-        sum_by Tcp cut one s1 mid after other (two_ports (word cut 0) (word cut 2) one (word_first there room 0 (omega arith) ∙ read.0) (word_first there room 2 (omega arith) ∙ read.1)) (word_first there room 16 (omega arith) ∙ read.2)
-        ∙ adjusted-twice (l4_of Tcp payload).sum (before + port_words (l4_of Tcp payload).ports) (mid + port_words one) (after + port_words other) in
+    sum_by Tcp cut one s1 mid after other (two_ports (word cut 0) (word cut 2) one (word_first there room 0 (omega arith) ∙ read.0) (word_first there room 2 (omega arith) ∙ read.1)) (word_first there room 16 (omega arith) ∙ read.2)
+    ∙ adjusted-twice (l4_of Tcp payload).sum (before + port_words (l4_of Tcp payload).ports) (mid + port_words one) (after + port_words other) in
     let s = readdressed_sum Tcp (l4_of Tcp payload) before after other in
     ap (λ (n : ℕ). with_l4 Tcp cut other n) sum
     ∙ three_front 16 s other.src other.dst there room (omega arith) (omega (arith, size)) (omega arith)
@@ -160,9 +160,9 @@ udp_twice payload room before mid after one other k l m stands fits are =
     let found : word cut 6 ≡ s1 = ap (λ (x : L4). x.sum) read in
     let s = given_sum w (readdressed_sum Udp l4 before after other) in
     let again : given_sum (word cut 6) (readdressed_sum Udp (l4_of Udp cut) mid after other) ≡ s =
-        ap (λ (n : ℕ). given_sum n (readdressed_sum Udp (l4_of Udp cut) mid after other)) found
-        ∙ ap (λ (x : L4). given_sum s1 (readdressed_sum Udp x mid after other)) read
-        ∙ twice w r1 (udp_some (adjusted l4.sum (before + port_words l4.ports) (mid + port_words one))) (written-twice Udp l4.sum (before + port_words l4.ports) (mid + port_words one) (after + port_words other)) in
+    ap (λ (n : ℕ). given_sum n (readdressed_sum Udp (l4_of Udp cut) mid after other)) found
+    ∙ ap (λ (x : L4). given_sum s1 (readdressed_sum Udp x mid after other)) read
+    ∙ twice w r1 (udp_some (adjusted l4.sum (before + port_words l4.ports) (mid + port_words one))) (written-twice Udp l4.sum (before + port_words l4.ports) (mid + port_words one) (after + port_words other)) in
     ap (λ (n : ℕ). with_l4 Udp cut other n) again
     ∙ with_l4-front Udp there other s room (λ e. cc) (omega (arith, size)) fits
     ∙ ap (λ (xs : List ℕ). part xs 0 room) (with_l4-twice Udp payload one other s1 s (λ e. cc) stands)

@@ -64,7 +64,8 @@ rest_is r s e = ap (λ (x : Row). x.rest) (sym (same_row r s e))
 
 again : AllRows IsAgain table46
 again = (
-  λ s e. rest_is (row 128 0 8 0 Query) s e, (λ s e. rest_is (row 129 0 0 0 Query) s e, (λ s e. rest_is (row 1 0 3 1 Zero) s e, (λ s e. rest_is (row 1 0 3 1 Zero) s e, (λ s e. rest_is (row 1 0 3 1 Zero) s e, (λ s e. rest_is (row 1 0 3 1 Zero) s e, (λ s e. rest_is (row 1 0 3 1 Zero) s e, (λ s e. rest_is (row 1 0 3 1 Zero) s e, (λ s e. rest_is (row 1 0 3 1 Zero) s e, (λ s e. rest_is (row 1 0 3 1 Zero) s e, (λ s e. rest_is (row 4 1 3 2 Zero) s e, (λ s e. rest_is (row 1 4 3 3 Zero) s e, (λ s e. rest_is (row 2 0 3 4 Mtu) s e, (λ s e. rest_is (row 1 1 3 10 Zero) s e, (λ s e. rest_is (row 1 1 3 10 Zero) s e, (λ s e. rest_is (row 1 1 3 10 Zero) s e, (λ s e. rest_is (row 1 1 3 10 Zero) s e, (λ s e. rest_is (row 3 0 11 0 Zero) s e, (λ s e. rest_is (row 3 1 11 1 Zero) s e, (λ s e. rest_is (row 4 0 12 0 Pointer) s e, (λ s e. rest_is (row 4 0 12 0 Pointer) s e, tt))))))))))))))))))))
+  λ s e. rest_is (row 128 0 8 0 Query) s e,
+  (λ s e. rest_is (row 129 0 0 0 Query) s e, (λ s e. rest_is (row 1 0 3 1 Zero) s e, (λ s e. rest_is (row 1 0 3 1 Zero) s e, (λ s e. rest_is (row 1 0 3 1 Zero) s e, (λ s e. rest_is (row 1 0 3 1 Zero) s e, (λ s e. rest_is (row 1 0 3 1 Zero) s e, (λ s e. rest_is (row 1 0 3 1 Zero) s e, (λ s e. rest_is (row 1 0 3 1 Zero) s e, (λ s e. rest_is (row 1 0 3 1 Zero) s e, (λ s e. rest_is (row 4 1 3 2 Zero) s e, (λ s e. rest_is (row 1 4 3 3 Zero) s e, (λ s e. rest_is (row 2 0 3 4 Mtu) s e, (λ s e. rest_is (row 1 1 3 10 Zero) s e, (λ s e. rest_is (row 1 1 3 10 Zero) s e, (λ s e. rest_is (row 1 1 3 10 Zero) s e, (λ s e. rest_is (row 1 1 3 10 Zero) s e, (λ s e. rest_is (row 3 0 11 0 Zero) s e, (λ s e. rest_is (row 3 1 11 1 Zero) s e, (λ s e. rest_is (row 4 0 12 0 Pointer) s e, (λ s e. rest_is (row 4 0 12 0 Pointer) s e, tt)))))))))))))))))))),
 )
 
 pub row_again : (kind code : ℕ) (r s : Row) → row_of table46 kind code ≡ Some r → row_of table64 r.to_kind r.to_code ≡ Some s → s.rest ≡ rest_again r.rest
@@ -76,7 +77,8 @@ HasNoLength r = (r.rest ≡ Zero) ⊎ ((r.to_kind == 1 || r.to_kind == 3) ≡ fa
 
 lengths : AllRows HasNoLength table46
 lengths = (
-  inr refl, (inr refl, (inl refl, (inl refl, (inl refl, (inl refl, (inl refl, (inl refl, (inl refl, (inl refl, (inr refl, (inl refl, (inr refl, (inl refl, (inl refl, (inl refl, (inl refl, (inl refl, (inl refl, (inr refl, (inr refl, tt))))))))))))))))))))
+  inr refl,
+  (inr refl, (inl refl, (inl refl, (inl refl, (inl refl, (inl refl, (inl refl, (inl refl, (inl refl, (inr refl, (inl refl, (inr refl, (inl refl, (inl refl, (inl refl, (inl refl, (inl refl, (inl refl, (inr refl, (inr refl, tt)))))))))))))))))))),
 )
 
 pub no_length : (kind code : ℕ) (r : Row) → row_of table46 kind code ≡ Some r → HasNoLength r

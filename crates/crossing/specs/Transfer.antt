@@ -49,11 +49,6 @@ content_with ends (Error m row inner) = Error m row (inner_with ends inner)
 abbrev pub packet_with : Ends Addr4 → Packet4 → Packet4
 packet_with ends p = record { head = record p.head { src = ends.src; dst = ends.dst }; content = content_with ends p.content }
 
--- it isn't an ICMP error
-abbrev pub IsNoError : Content4 → Type 0
-IsNoError (Error m row inner) = ⊥
-IsNoError _ = Unit {0}
-
 -- Numbers of a header, an address and ports that fit their fields. The identification is looked at in a fragment alone.
 pub record FitsHead (h : Head4) : Type 0 where
   pub tos : h.tos < 256
