@@ -134,7 +134,7 @@ pub error_laid : (t : Transfer) (m : Icmp4) (row : Row) (inner : Inner4) (octets
 error_laid t m row inner octets six e taken there =
     let h = t.taken.head in
     let has : IsErrorOf4 h (payload_of4 h octets) m row inner = subst (λ (c : Content4). IsContent4 h (payload_of4 h octets) c) e taken.is.content in
-    let fit : FitsHead inner.head × (t.six.inner_src.0 < 2 ^ 128) × (t.six.inner_dst.0 < 2 ^ 128) = subst (λ (c : Content4). FitsContent c t.six) e taken.inner in
+    let fit : FitsHead inner.head = subst (λ (c : Content4). FitsContent c) e taken.inner in
     let told = rest_there t.mtus h m row inner t.six six (rest46 t.mtus inner.head.total m.rest row.rest) (subst (λ (c : Content4). translation46 t.mtus h t.payload t.six c ≡ Some six) e there) in
     let rest : ℕ = told.0 in
     let m6 = error46 row rest inner t.six in
@@ -146,7 +146,7 @@ error_laid t m row inner octets six e taken there =
       protocol = has.message.protocol;
       found = has.message.found;
       no_query = has.error.no_query;
-      fits = record { head = fit.0; src = fit.1; dst = fit.2; stands = has.embedded.stands; declared = declared; least = has.embedded.header.least; first = has.embedded.first; carried = has.embedded.carried };
+      fits = record { head = fit; src = taken.six.inner_src; dst = taken.six.inner_dst; stands = has.embedded.stands; declared = declared; least = has.embedded.header.least; first = has.embedded.first; carried = has.embedded.carried };
       answers = has.answers;
       rest = rest;
       rest_is = told.1;
