@@ -42,11 +42,11 @@ some_same a b e = cc
 abbrev pub frag_of : Head4 → Frag6
 frag_of h = record { offset = h.offset; more = h.mf; id = h.id }
 
-id_twice : (b : Bool) (frag : Frag6) (id : ℕ) → (b ≡ true → frag.id < 65536) → identification64 (cond b (Some frag) None) id ≡ cond b frag.id id
+pub id_twice : (b : Bool) (frag : Frag6) (id : ℕ) → (b ≡ true → frag.id < 65536) → identification64 (cond b (Some frag) None) id ≡ cond b frag.id id
 id_twice true frag id fits = omega (arith, fits refl)
 id_twice false frag id fits = refl
 
-df_twice : (b : Bool) (frag : Frag6) (total : ℕ) → dont_fragment64 (cond b (Some frag) None) total ≡ (not b && not (nat_le total 1260))
+pub df_twice : (b : Bool) (frag : Frag6) (total : ℕ) → dont_fragment64 (cond b (Some frag) None) total ≡ (not b && not (nat_le total 1260))
 df_twice true frag total = refl
 df_twice false frag total = refl
 
@@ -72,12 +72,12 @@ head_there t len = record (translated46 t.taken.head t.six.src t.six.dst) { leng
 abbrev pub head_back : Transfer → ℕ → Head4
 head_back t len = translated64 (head_there t len) t.four.src t.four.dst (t.number % 2 ^ 16)
 
-placed_by : (fragment : Bool) (frag : Frag6) (len : ℕ) → frag.offset < 8192 → len ≤ 65515
+pub placed_by : (fragment : Bool) (frag : Frag6) (len : ℕ) → frag.offset < 8192 → len ≤ 65515
     → let header = cond fragment (Some frag) None in IsPlaced (cond (is_some header) 48 40) len header
 placed_by true frag len low fits = (refl, omega arith, low)
 placed_by false frag len low fits = refl
 
-frag_fits : (fragment : Bool) (frag : Frag6) → (fragment ≡ true → frag.id < 65536) → FitsFrag (cond fragment (Some frag) None)
+pub frag_fits : (fragment : Bool) (frag : Frag6) → (fragment ≡ true → frag.id < 65536) → FitsFrag (cond fragment (Some frag) None)
 frag_fits true frag fits = omega (arith, fits refl)
 frag_fits false frag fits = tt
 

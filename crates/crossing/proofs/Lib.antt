@@ -12,4 +12,8 @@ pub mod Pieces
 pub mod Together
 pub mod Uncut
 pub mod Over
+pub mod Inner
+pub mod Longer
+pub mod Embedded
+pub mod Error
 pub mod Trials

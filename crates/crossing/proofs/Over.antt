@@ -8,6 +8,8 @@ use Rattle.octets.specs.declared.proto.Proto.{Proto}
 use Rattle.octets.specs.declared.proto.Proto.TheVariants.{Tcp, Udp, Icmp}
 use Rattle.ip6_packet.specs.declared.head.Head6.{Head6}
 use Rattle.ip6_packet.specs.Fragment.{fragment_offset}
+use Rattle.octets.specs.declared.address.Addr6.{Addr6}
+use Rattle.icmp_xlat.specs.declared.ends.Ends.{Ends}
 use Rattle.l4_headers.specs.declared.ports.Ports.{Ports}
 use Rattle.l4_headers.specs.declared.ports.L4.{L4}
 use Rattle.l4_headers.specs.Transport.{header_octets, l4_of}
@@ -20,7 +22,7 @@ use Rattle.packets.specs.declared.packet6.Packet6.{Packet6}
 use Rattle.packets.specs.Packet6.{IsContent6, IsPacket6}
 use Rattle.transit.specs.Passage46.{is_message4}
 use Rattle.crossing.specs.Named.{Portion, uncut, piece_at}
-use Rattle.crossing.specs.Transfer.{Transfer, FitsPorts, IsTaken, IsThere, IsPieceThere, IsSentThere, IsBack, ComesOf, IsNoError, crossing_of}
+use Rattle.crossing.specs.Transfer.{Transfer, FitsPorts, IsTaken, IsThere, IsPieceThere, IsSentThere, IsBack, ComesOf, crossing_of}
 use Rattle.crossing.proofs.Heads.{Reads, IsLaid, offset_there, head_there}
 use Rattle.crossing.proofs.Contents.{one_segment, one_later}
 use Rattle.crossing.proofs.Segment.{ReadsFlow, again_of, payload_there, length_there, segment_laid}
@@ -68,10 +70,10 @@ piece_crosses t octets six four at at_relay q taken is back =
     let one = cut.each is.cut.0 is.cut.1 four is.k at_relay q is.cut.2 this.inside (subst (λ (xs : List ℕ). IsBack t at_relay q xs four) this.is back) in
     subst (λ (n : ℕ). ComesOf (crossing_of t) (piece_at n) four) (sym is.begins) (record { whole = whole; sent = one.sent; named = one.named; octets_are = one.octets_are })
 
-pub over_crosses : (t : Transfer) (octets six four : List ℕ) (portion : Portion) (at_relay : Bool) (q : Packet6) → IsNoError t.taken.content → IsTaken t octets → IsSentThere t portion six → IsBack t at_relay q six four
+pub over_crosses : (t : Transfer) (octets six four : List ℕ) (portion : Portion) (at_relay : Bool) (q : Packet6) → IsTaken t octets → IsSentThere t portion six → IsBack t at_relay q six four
     → ComesOf (crossing_of t) portion four
-over_crosses t octets six four uncut at_relay q fine taken there back = crosses t octets six four at_relay q fine taken there back
-over_crosses t octets six four (piece_at at) at_relay q fine taken there back = piece_crosses t octets six four at at_relay q taken there back
+over_crosses t octets six four uncut at_relay q taken there back = crosses t octets six four at_relay q taken there back
+over_crosses t octets six four (piece_at at) at_relay q taken there back = piece_crosses t octets six four at at_relay q taken there back
 
 -- ---- what is read of it
 
@@ -79,8 +81,8 @@ ends_read : (t : Transfer) (over six : List ℕ) (at : ℕ) (q : Packet6) → Re
 ends_read t over six at q read = record { src = ap (λ (h : Head6). h.src) read.head; dst = ap (λ (h : Head6). h.dst) read.head }
 
 -- a flow, or a later fragment
-abbrev pub FlowMay : Content4 → Ports → Content6 → Type 0
-FlowMay content ports q = FlowIs content ports q ⊎ ((proto : Proto) × (q ≡ Later6 proto))
+abbrev pub FlowMay : Content4 → Ends Addr6 → Content6 → Type 0
+FlowMay content six q = FlowIs content six q ⊎ ((proto : Proto) × (q ≡ Later6 proto))
 
 inside_of : (t : Transfer) (over : List ℕ) (at : ℕ) (at_relay : Bool) (q : Packet6) (six : List ℕ) → Reads q (piece_head (cut_of t over) at) (piece_payload (cut_of t over) at) six → IsPacket6 at_relay q six
     → IsContent6 at_relay (piece_head (cut_of t over) at) (piece_payload (cut_of t over) at) q.content
@@ -96,7 +98,7 @@ header_short t Icmp = omega (arith, step_least t.mtus)
 -- of a piece both ends and the flow are read, or that it is a later fragment
 pub record Seen (t : Transfer) (q : Packet6) : Type 0 where
   pub ends : ReadsEnds t q
-  pub flow : FlowMay t.taken.content t.six.ports q.content
+  pub flow : FlowMay t.taken.content t.six q.content
 
 piece_seen : (t : Transfer) (octets six : List ℕ) (at : ℕ) (at_relay : Bool) (q : Packet6) → IsTaken t octets → IsPieceThere t at six → IsPacket6 at_relay q six → Seen t q
 piece_seen t octets six at at_relay q taken is read_is = by t.taken.content refl is.flows
@@ -114,14 +116,14 @@ piece_seen t octets six at at_relay q taken is read_is = by t.taken.content refl
         let read = piece_reads t octets over is.octets h payload is.k at_relay q taken is.id laid.laid is.cut.2 this.inside own in
         let inside = inside_of t over place at_relay q (piece (cut_of t over) place).bytes read own in
         let offset : fragment_offset (piece_head (cut_of t over) place).frag ≡ t.taken.head.offset + place / 8 = ap (λ (n : ℕ). n + place / 8) (offset_there t.taken.head) in
-        let flow : FlowMay (Segment4 proto l4) t.six.ports q.content = elim (place_of t over is.k this.inside).apart [
+        let flow : FlowMay (Segment4 proto l4) t.six q.content = elim (place_of t over is.k this.inside).apart [
           | inl start ↦
               let one = one_segment at_relay (piece_head (cut_of t over) place) (piece_payload (cut_of t over) place) proto q.content laid.number.six laid.carries.there.no_icmp (omega (arith, offset, laid.carries.first, start)) inside in
               let front : l4_of proto (piece_payload (cut_of t over) place) ≡ l4_of proto over = subst (λ (n : ℕ). l4_of proto (part over n step) ≡ l4_of proto over) (sym start) (l4_of-front proto over step laid.carries.there.no_icmp (header_short t proto)) in
               inl (subst (λ (c : Content6). ReadsFlow c proto t.six.ports) (sym one.is) (record { fault = refl; proto_is = refl; ports_are = ap (λ (l : L4). l.ports) (one.l4_is ∙ front) ∙ (again_of t proto laid.carries).ports_are; no_later = λ other later. cc }))
           | inr behind ↦ inr (proto, one_later at_relay (piece_head (cut_of t over) place) (piece_payload (cut_of t over) place) proto q.content laid.number.six laid.carries.there.no_icmp (λ (none : fragment_offset (piece_head (cut_of t over) place).frag ≡ 0). omega (arith, offset, none, behind)) inside)
         ] in
-        record { ends = ends_read t over (piece (cut_of t over) place).bytes place q read; flow = subst (λ (c : Content4). FlowMay c t.six.ports q.content) (sym e) flow }
+        record { ends = ends_read t over (piece (cut_of t over) place).bytes place q read; flow = subst (λ (c : Content4). FlowMay c t.six q.content) (sym e) flow }
     by (Later4 proto) e flows =
         let h : Head6 = is.cut.0 in
         let payload : List ℕ = is.cut.1 in
@@ -138,6 +140,6 @@ piece_seen t octets six at at_relay q taken is read_is = by t.taken.content refl
     by (Query4 m row) e flows = absurd (false≢true (sym flows))
     by (Error4 m row inner) e flows = absurd (false≢true (sym flows))
 
-pub seen : (t : Transfer) (octets six : List ℕ) (portion : Portion) (at_relay : Bool) (q : Packet6) → IsNoError t.taken.content → IsTaken t octets → IsSentThere t portion six → IsPacket6 at_relay q six → Seen t q
-seen t octets six uncut at_relay q fine taken there is = record { ends = reads_ends t octets six at_relay q fine taken there is; flow = inl (reads_flow t octets six at_relay q fine taken there is) }
-seen t octets six (piece_at at) at_relay q fine taken there is = piece_seen t octets six at at_relay q taken there is
+pub seen : (t : Transfer) (octets six : List ℕ) (portion : Portion) (at_relay : Bool) (q : Packet6) → IsTaken t octets → IsSentThere t portion six → IsPacket6 at_relay q six → Seen t q
+seen t octets six uncut at_relay q taken there is = record { ends = reads_ends t octets six at_relay q taken there is; flow = inl (reads_flow t octets six at_relay q taken there is) }
+seen t octets six (piece_at at) at_relay q taken there is = piece_seen t octets six at at_relay q taken there is

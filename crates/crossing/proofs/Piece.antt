@@ -42,19 +42,19 @@ word_behind : (place n : ℕ) (xs : List ℕ) (at count : ℕ) → place + 2 ≤
 word_behind place n xs at count fits behind = same_number_lists _ _ (grind (arith, places)) (λ k small. grind (arith, places))
 
 -- a number is written within the first octets as it is in all
-word_front : (place n : ℕ) (xs : List ℕ) (count : ℕ) → place + 2 ≤ count → place + 2 ≤ length xs → with_word place n (part xs 0 count) ≡ part (with_word place n xs) 0 count
+pub word_front : (place n : ℕ) (xs : List ℕ) (count : ℕ) → place + 2 ≤ count → place + 2 ≤ length xs → with_word place n (part xs 0 count) ≡ part (with_word place n xs) 0 count
 word_front place n xs count inside fits = same_number_lists _ _ (grind (arith, places)) (λ k small. grind (arith, places))
 
-octet_front : (xs : List ℕ) (n k : ℕ) → k < n → octet (part xs 0 n) k ≡ octet xs k
+pub octet_front : (xs : List ℕ) (n k : ℕ) → k < n → octet (part xs 0 n) k ≡ octet xs k
 octet_front xs n k inside = grind (arith, places)
 
-word_first : (xs : List ℕ) (n at : ℕ) → at + 2 ≤ n → word (part xs 0 n) at ≡ word xs at
+pub word_first : (xs : List ℕ) (n at : ℕ) → at + 2 ≤ n → word (part xs 0 n) at ≡ word xs at
 word_first xs n at inside = omega (arith, octet_front xs n at (omega arith), octet_front xs n (suc at) (omega arith))
 
-l4_is : (ports one : Ports) (sum other flags flag : ℕ) → ports ≡ one → sum ≡ other → flags ≡ flag → ◌≡◌ {A = L4} (record { ports = ports; sum = sum; flags = flags }) (record { ports = one; sum = other; flags = flag })
+pub l4_is : (ports one : Ports) (sum other flags flag : ℕ) → ports ≡ one → sum ≡ other → flags ≡ flag → ◌≡◌ {A = L4} (record { ports = ports; sum = sum; flags = flags }) (record { ports = one; sum = other; flags = flag })
 l4_is ports one sum other flags flag a b c = rw (a, b, c) refl
 
-ports_is : (src dst one other : ℕ) → src ≡ one → dst ≡ other → ◌≡◌ {A = Ports} (record { src = src; dst = dst }) (record { src = one; dst = other })
+pub ports_is : (src dst one other : ℕ) → src ≡ one → dst ≡ other → ◌≡◌ {A = Ports} (record { src = src; dst = dst }) (record { src = one; dst = other })
 ports_is src dst one other a b = rw (a, b) refl
 
 pub l4_of-front : (proto : Proto) (xs : List ℕ) (n : ℕ) → proto ≢ Icmp → header_octets proto ≤ n → l4_of proto (part xs 0 n) ≡ l4_of proto xs
@@ -75,7 +75,7 @@ with_l4-behind Tcp payload ports sum at n flows stands behind = three_behind 16 
 with_l4-behind Udp payload ports sum at n flows stands behind = three_behind 6 sum ports.src ports.dst payload at n (omega arith) (omega arith) (omega arith)
 with_l4-behind Icmp payload ports sum at n flows stands behind = absurd (flows refl)
 
-three_front : (place s p q : ℕ) (xs : List ℕ) (n : ℕ) → 4 ≤ place → place + 2 ≤ length xs → place + 2 ≤ n → with_word place s (with_word 2 q (with_word 0 p (part xs 0 n))) ≡ part (with_word place s (with_word 2 q (with_word 0 p xs))) 0 n
+pub three_front : (place s p q : ℕ) (xs : List ℕ) (n : ℕ) → 4 ≤ place → place + 2 ≤ length xs → place + 2 ≤ n → with_word place s (with_word 2 q (with_word 0 p (part xs 0 n))) ≡ part (with_word place s (with_word 2 q (with_word 0 p xs))) 0 n
 three_front place s p q xs n later fits inside =
     let l0 = length-with_word 0 p xs (omega arith) in
     let l2 = length-with_word 2 q (with_word 0 p xs) (omega arith) in

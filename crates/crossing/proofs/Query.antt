@@ -72,7 +72,7 @@ pub record IsOneQuery (m : Icmp6) (content : Content6) : Type 0 where
   pub read : IsRead m message
   pub found : row_of table64 m.kind m.code ≡ Some row
 
-found_by : (m n : Icmp6) (row : Row) → IsRead m n → row_of table64 n.kind n.code ≡ Some row → row_of table64 m.kind m.code ≡ Some row
+pub found_by : (m n : Icmp6) (row : Row) → IsRead m n → row_of table64 n.kind n.code ≡ Some row → row_of table64 m.kind m.code ≡ Some row
 found_by m n row read found = subst (λ (c : ℕ). row_of table64 m.kind c ≡ Some row) read.code (subst (λ (k : ℕ). row_of table64 k n.code ≡ Some row) read.kind found)
 
 one_query : (at_relay : Bool) (h : Head6) (m : Icmp6) (content : Content6) → h.upper ≡ 58 → m.rest < 2 ^ 32 → ((row : Row) → row_of table64 m.kind m.code ≡ Some row → row.rest ≡ Query)
@@ -91,7 +91,7 @@ one_query at_relay h m (Error6 n row inner) upper fits query has =
 abbrev both_ports : ℕ → Ports
 both_ports n = record { src = n; dst = n }
 
-upper_58 : (proto : ℕ) → proto ≡ 1 → IsUpper (upper_protocol proto)
+pub upper_58 : (proto : ℕ) → proto ≡ 1 → IsUpper (upper_protocol proto)
 upper_58 proto is = subst (λ (n : ℕ). IsUpper (upper_protocol n)) (sym is) (λ h. omega arith, λ h. omega arith, λ h. omega arith, λ h. omega arith)
 
 identified : (port rest : ℕ) → port < 65536 → port * 2 ^ 16 + rest % 2 ^ 16 < 2 ^ 32

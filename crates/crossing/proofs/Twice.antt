@@ -19,7 +19,7 @@ apart a b n m xs one other (inl below) = same_number_lists _ _ (grind (arith, pl
 apart a b n m xs one other (inr above) = same_number_lists _ _ (grind (arith, places)) (λ k small. grind (arith, places))
 
 -- three numbers at places apart, written over three others
-three : (at s t p q r v : ℕ) (xs : List ℕ) → 4 ≤ at → at + 2 ≤ length xs
+pub three : (at s t p q r v : ℕ) (xs : List ℕ) → 4 ≤ at → at + 2 ≤ length xs
     → with_word at t (with_word 2 v (with_word 0 r (with_word at s (with_word 2 q (with_word 0 p xs))))) ≡ with_word at t (with_word 2 v (with_word 0 r xs))
 three at s t p q r v xs behind fits =
     let x0 = with_word 0 p xs in

@@ -49,11 +49,6 @@ content_with ends (Error m row inner) = Error m row (inner_with ends inner)
 abbrev pub packet_with : Ends Addr4 → Packet4 → Packet4
 packet_with ends p = record { head = record p.head { src = ends.src; dst = ends.dst }; content = content_with ends p.content }
 
--- it isn't an ICMP error
-abbrev pub IsNoError : Content4 → Type 0
-IsNoError (Error m row inner) = ⊥
-IsNoError _ = Unit {0}
-
 -- Numbers of a header, an address and ports that fit their fields. The identification is looked at in a fragment alone.
 pub record FitsHead (h : Head4) : Type 0 where
   pub tos : h.tos < 256
@@ -63,6 +58,8 @@ pub record FitsHead (h : Head4) : Type 0 where
 pub record FitsEnds (ends : Ends Addr6) : Type 0 where
   pub src : ends.src.0 < 2 ^ 128
   pub dst : ends.dst.0 < 2 ^ 128
+  pub inner_src : ends.inner_src.0 < 2 ^ 128
+  pub inner_dst : ends.inner_dst.0 < 2 ^ 128
   pub ports : ArePorts ends.ports
 
 -- a later fragment has no ports
@@ -70,11 +67,17 @@ abbrev pub FitsPorts : Content4 → Ports → Type 0
 FitsPorts (Later proto) ports = Unit {0}
 FitsPorts _ ports = ArePorts ports
 
+-- and those of the header that an error embeds
+abbrev pub FitsContent : Content4 → Type 0
+FitsContent (Error m row inner) = FitsHead inner.head
+FitsContent _ = Unit {0}
+
 -- the octets are the packet that was taken, and numbers fit their fields
 pub record IsTaken (t : Transfer) (octets : List ℕ) : Type 0 where
   pub is : IsPacket4 t.taken octets
   pub payload : t.payload ≡ payload_of4 t.taken.head octets
   pub fits : FitsHead t.taken.head
+  pub inner : FitsContent t.taken.content
   pub six : FitsEnds t.six
 
 -- the first node translates it to these octets

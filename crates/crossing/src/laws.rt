@@ -5,15 +5,14 @@ ghost use Rattle.octets.specs.declared.parcel.Parcel.{Parcel};
 ghost use Rattle.packets.specs.declared.packet6.Packet6.{Packet6};
 ghost use Rattle.crossing.specs.Named.{Portion};
 ghost use Rattle.crossing.specs.Pieces.{IsCutInto, AreBack, ComeTogether};
-ghost use Rattle.crossing.specs.Transfer.{Transfer, IsTaken, IsSentThere, IsBack, IsNoError, ComesOf, crossing_of};
+ghost use Rattle.crossing.specs.Transfer.{Transfer, IsTaken, IsSentThere, IsBack, ComesOf, crossing_of};
 
 /// One node translates an IPv4 packet that it took to IPv6, and a second one takes these octets, or one of the pieces into which
 /// they were cut, and translates them back. Then nothing but the named header changes stands between what it sends and the
-/// packet, with the ends that the second node gave it. The packet is TCP or UDP, whole, a first or a later fragment, or an echo
-/// request or reply.
+/// packet, with the ends that the second node gave it. The packet is TCP or UDP, whole, a first or a later fragment, an echo
+/// request or reply, or an ICMP error.
 pub fn packets_come_back_with_the_named_changes()
     ensures { (t : Transfer) (octets six four : List ℕ) (portion : Portion) (at_relay : Bool) (q : Packet6)
-        → IsNoError t.taken.content
         → IsTaken t octets
         → IsSentThere t portion six
         → IsBack t at_relay q six four

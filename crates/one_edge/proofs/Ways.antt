@@ -104,7 +104,7 @@ form_of e t octets is fit =
     let size = payload_length e t octets is in
     let number = flow_number t.head.proto t.proto is.sound.carried.protocol is.sound.carried.no_icmp in
     let low = low_offset t.head (payload_of4 t.head octets) octets is.sound.is is.sound.header in
-    let made = form w over (head_fits e t octets is fit) (record { src = fit.source; dst = fit.far; ports = (fit.port, fit.far_port) }) low (omega (arith, size, fit.total, is.sound.is.head_fits)) number.upper in
+    let made = form w over (head_fits e t octets is fit) (record { src = fit.source; dst = fit.far; inner_src = fit.source; inner_dst = fit.source; ports = (fit.port, fit.far_port) }) low (omega (arith, size, fit.total, is.sound.is.head_fits)) number.upper in
     subst (λ (n : ℕ). IsPacket6 (head_there w n) over (written6 (head_there w n) over)) size made
 
 pub read_as : (e : Edge) (t : Taken) (octets : List ℕ) → IsServed e t octets → Fits e t → Is6 (carried_of e t octets).head (carried_of e t octets).payload (written6 (carried_of e t octets).head (carried_of e t octets).payload)

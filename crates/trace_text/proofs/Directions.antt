@@ -22,7 +22,9 @@ use Rattle.nat_model.specs.declared.answer.Answer.{Answer}
 use Rattle.nat_model.specs.declared.answer.Answer.TheVariants.{Out, Turn, In, Kept, Held, Refused}
 use Rattle.nat_model.specs.Remote.{behind, found_behind}
 use Rattle.nat_model.specs.State.{Generation}
+use Rattle.icmp_messages.specs.declared.inner4.Inner4.{Inner4}
 use Rattle.packets.specs.declared.packet4.Content4.{Content4}
+use Rattle.packets.specs.declared.packet4.Content4.TheVariants.{Segment, Later, Query, Error}
 use Rattle.packets.specs.declared.packet4.Packet4.{Packet4}
 use Rattle.packets.specs.declared.packet6.Content6.{Content6}
 use Rattle.packets.specs.declared.packet6.Content6.TheVariants.{Later as Later6}
@@ -37,19 +39,21 @@ use Rattle.edge_node.specs.Ends.{ends_out, ends_in, with_far_port}
 use Rattle.edge_node.specs.Asked.{near_addr6}
 use Rattle.relay_node.specs.Relay.{Relay, source_port, source_of, address_in, embedded_in}
 use Rattle.relay_node.specs.FromAccess.{ends64}
-use Rattle.relay_node.specs.FromIpv4.{ends46}
+use Rattle.relay_node.specs.FromIpv4.{ends46, far_end}
 use Rattle.crossing.specs.Nat44.{sent_from, received_at, content_from, content_to}
 use Rattle.crossing.specs.Named.{Portion, uncut, piece_at}
-use Rattle.crossing.specs.Transfer.{Transfer, IsTaken, IsThere, IsSentThere, IsBack, ComesOf, IsNoError, FitsEnds, packet_with, content_with}
+use Rattle.crossing.specs.Transfer.{Transfer, IsTaken, IsThere, IsSentThere, IsBack, ComesOf, FitsEnds, packet_with, content_with}
+use Rattle.crossing.proofs.Error.{ReadsError}
 use Rattle.crossing.proofs.Over.{Seen, seen, over_crosses}
+use Rattle.crossing.proofs.Uncut.{FlowIs}
 use Rattle.trace_text.specs.Answered.{Step, AreRulesOf, AnsweredOut, AnsweredIn, rules_at}
 use Rattle.trace_text.specs.Behind.{ipv4_behind}
 use Rattle.trace_text.specs.Hops.{IsTaken4, FitsAnswer, EdgeSends, EdgeReceives, IsEmitted, RelaySends, RelayReceives}
 use Rattle.trace_text.specs.Crossings.{Passed, Domain, id_of, IsRelayOf, ToRelay, FromRelay, End, EdgeToEdge, IsOneStep, crossing_with}
 use Rattle.trace_text.proofs.Machine.{IsWayOut, IsWayIn, way_out, way_in}
 use Rattle.trace_text.proofs.Addresses.{accepted, holder_holds, embedded_holds, extracted_holds, reached_holds, one_behind}
-use Rattle.trace_text.proofs.Fits.{head_fits, id_fits, src_fits, dst_fits, ports_fit}
-use Rattle.trace_text.proofs.Ports.{near_fits, Replaces, source_replaced, source_given, destination_replaced, destination_given, both_replaced, both_given}
+use Rattle.trace_text.proofs.Fits.{head_fits, id_fits, src_fits, dst_fits, ports_fit, content_fits, FitsWithin, within}
+use Rattle.trace_text.proofs.Ports.{near_fits, Replaces, PortsAre, InnerOut, InnerIn, InnerBoth, source_given, destination_given, both_given, read_near, read_far}
 
 -- ---- addresses
 
@@ -117,7 +121,7 @@ transfer domain c six four = record {
 }
 
 taken_as : (domain : Domain) (c : Passed) (six : Ends Addr6) (four : Ends Addr4) → IsTaken4 c.taken c.octets → FitsEnds six → IsTaken (transfer domain c six four) c.octets
-taken_as domain c six four taken fits = record { is = taken.is; payload = refl; fits = head_fits c.taken.head c.octets taken.are taken.is.is.fields; six = fits }
+taken_as domain c six four taken fits = record { is = taken.is; payload = refl; fits = head_fits c.taken.head c.octets taken.are taken.is.is.fields; inner = content_fits c.taken.content c.taken.head.dst (within c.taken c.octets taken); six = fits }
 
 back_with : (mtus domain_mtus : Mtus) (id domain_id : ℕ) (q : Packet6) (six four : List ℕ) (ends : Ends Addr4) → mtus ≡ domain_mtus → id ≡ domain_id
     → translation64 mtus q.head (payload_of6 q.head six) ends id q.content ≡ Some four → translation64 domain_mtus q.head (payload_of6 q.head six) ends domain_id q.content ≡ Some four
@@ -158,7 +162,6 @@ later_back mtus id q six four src dst a b c d ports others proto later is =
 
 -- what the first node did, between these ends over IPv6
 record IsThrough (domain : Domain) (c : Passed) (six : Ends Addr6) : Type 0 where
-  fine : IsNoError c.taken.content
   taken : IsTaken4 c.taken c.octets
   fits : FitsEnds six
   passage : IsPassage46 domain.mtus c.taken (payload_of4 c.taken.head c.octets) six c.passage
@@ -168,7 +171,7 @@ over : (domain : Domain) (c : Passed) (six : Ends Addr6) (four : Ends Addr4) →
 over domain c six four is = sent_there (transfer domain c six four) c.passage c.portion c.six (id_fits c.taken.head c.octets is.taken.are is.taken.is.is.fields) is.passage is.emitted
 
 sees : (domain : Domain) (c : Passed) (six : Ends Addr6) (four : Ends Addr4) (at_relay : Bool) → IsThrough domain c six → IsPacket6 at_relay c.read c.six → Seen (transfer domain c six four) c.read
-sees domain c six four at_relay is arrives = seen (transfer domain c six four) c.octets c.six c.portion at_relay c.read is.fine (taken_as domain c six four is.taken is.fits) (over domain c six four is) arrives
+sees domain c six four at_relay is arrives = seen (transfer domain c six four) c.octets c.six c.portion at_relay c.read (taken_as domain c six four is.taken is.fits) (over domain c six four is) arrives
 
 -- what the second node did, between these ends over IPv4
 comes_of : (domain : Domain) (c : Passed) (six : Ends Addr6) (four : Ends Addr4) (at_relay : Bool) (src dst : Addr4) (content : Content4) → IsThrough domain c six → IsPacket6 at_relay c.read c.six → 1 < c.read.head.hop
@@ -177,35 +180,100 @@ comes_of : (domain : Domain) (c : Passed) (six : Ends Addr6) (four : Ends Addr4)
 comes_of domain c six four at_relay src dst content is arrives lasts makes is_src is_dst replaces =
     let t = transfer domain c six four in
     let back : IsBack t at_relay c.read c.six c.four = record { is = arrives; lasts = lasts; ports = replaces.fits; back = makes } in
-    let comes = over_crosses t c.octets c.six c.four c.portion at_relay c.read is.fine (taken_as domain c six four is.taken is.fits) (over domain c six four is) back in
+    let comes = over_crosses t c.octets c.six c.four c.portion at_relay c.read (taken_as domain c six four is.taken is.fits) (over domain c six four is) back in
     subst (λ (r : Packet4). ComesOf (crossing_with domain c r) c.portion c.four) (replaced_is c.taken four src dst content is_src is_dst replaces.is) comes
+
+-- ---- the ends of what an error embeds
+
+ports_same : (content : Content4) (ports : Ports) → PortsAre content ports ports
+ports_same (Segment proto l4) ports = refl
+ports_same (Later proto) ports = tt
+ports_same (Query m row) ports = refl
+ports_same (Error m row inner) ports = refl
+
+-- the source and the destination of an embedded packet, and else this
+abbrev near_inner : Content4 → Addr4 → Addr4
+near_inner (Error m row inner) other = inner.head.src
+near_inner _ other = other
+
+abbrev far_inner : Content4 → Addr4 → Addr4
+far_inner (Error m row inner) other = inner.head.dst
+far_inner _ other = other
+
+out_given : (content : Content4) (ends : Ends Addr4) (from : Addr4) → ends.inner_src ≡ near_inner content from → ends.inner_dst ≡ from → InnerOut content ends from
+out_given (Segment proto l4) ends from one other = tt
+out_given (Later proto) ends from one other = tt
+out_given (Query m row) ends from one other = tt
+out_given (Error m row inner) ends from one other = (one, other)
+
+in_given : (content : Content4) (ends : Ends Addr4) (to : Addr4) → ends.inner_src ≡ to → ends.inner_dst ≡ far_inner content to → InnerIn content ends to
+in_given (Segment proto l4) ends to one other = tt
+in_given (Later proto) ends to one other = tt
+in_given (Query m row) ends to one other = tt
+in_given (Error m row inner) ends to one other = (one, other)
+
+both_ends : (content : Content4) (ends : Ends Addr4) (from to : Addr4) → ends.inner_src ≡ to → ends.inner_dst ≡ from → InnerBoth content ends from to
+both_ends (Segment proto l4) ends from to one other = tt
+both_ends (Later proto) ends from to one other = tt
+both_ends (Query m row) ends from to one other = tt
+both_ends (Error m row inner) ends from to one other = (one, other)
+
+inner_out : (content : Content4) (ends : Ends Addr4) (from dst : Addr4) → FitsWithin content dst → ends.inner_src ≡ dst → ends.inner_dst ≡ from → InnerOut content ends from
+inner_out (Segment proto l4) ends from dst inside one other = tt
+inner_out (Later proto) ends from dst inside one other = tt
+inner_out (Query m row) ends from dst inside one other = tt
+inner_out (Error m row inner) ends from dst inside one other = (one ∙ sym inside.1, other)
+
+-- the remote address of an error's flow, as the second node reads it
+far_seen : (inner : Inner4) (six : Ends Addr6) (q : Packet6) → ReadsError inner six q.content → near_addr6 q q.content ≡ six.inner_dst
+far_seen inner six q read = ap (λ (c : Content6). near_addr6 q c) read.is ∙ read.far
+
+inner_in : (dmr : Dmr) (relay : Relay) (content : Content4) (src dst peer to : Addr4) (six : Ends Addr6) (ends : Ends Addr4) (q : Packet6) → relay.dmr ≡ dmr → six.inner_dst ≡ embedded_in relay.dmr (far_end src content) → FlowIs content six q.content
+    → FitsWithin content dst → ipv4_behind dmr (near_addr6 q q.content).0 ≡ Some peer.0 → ends.inner_src ≡ to → ends.inner_dst ≡ peer → InnerIn content ends to
+inner_in dmr relay (Segment proto l4) src dst peer to six ends q fixed is flow inside told one other = tt
+inner_in dmr relay (Later proto) src dst peer to six ends q fixed is flow inside told one other = tt
+inner_in dmr relay (Query m row) src dst peer to six ends q fixed is flow inside told one other = tt
+inner_in dmr relay (Error m row inner) src dst peer to six ends q fixed is flow inside told one other =
+    let at = embedded_in relay.dmr inner.head.dst in
+    let found : ipv4_behind dmr at.0 ≡ Some peer.0 = subst (λ (a : Addr6). ipv4_behind dmr a.0 ≡ Some peer.0) (far_seen inner six q flow ∙ is) told in
+    let holds : ipv4_behind dmr at.0 ≡ Some inner.head.dst.0 = subst (λ (d : Dmr). ipv4_behind d at.0 ≡ Some inner.head.dst.0) fixed (embedded_holds relay.dmr inner.head.dst.0 inside.0.dst) in
+    (one, other ∙ one_behind dmr at.0 peer inner.head.dst found holds)
+
+inner_both : (dmr : Dmr) (content : Content4) (from peer to : Addr4) (six : Ends Addr6) (ends : Ends Addr4) (q : Packet6) → ipv4_behind dmr six.inner_dst.0 ≡ Some from.0 → FlowIs content six q.content
+    → ipv4_behind dmr (near_addr6 q q.content).0 ≡ Some peer.0 → ends.inner_src ≡ to → ends.inner_dst ≡ peer → InnerBoth content ends from to
+inner_both dmr (Segment proto l4) from peer to six ends q holds flow told one other = tt
+inner_both dmr (Later proto) from peer to six ends q holds flow told one other = tt
+inner_both dmr (Query m row) from peer to six ends q holds flow told one other = tt
+inner_both dmr (Error m row inner) from peer to six ends q holds flow told one other =
+    let found : ipv4_behind dmr six.inner_dst.0 ≡ Some peer.0 = subst (λ (a : Addr6). ipv4_behind dmr a.0 ≡ Some peer.0) (far_seen inner six q flow) told in
+    (one, other ∙ one_behind dmr six.inner_dst.0 peer from found holds)
 
 -- ---- from an edge to the relay
 
-through_out : (domain : Domain) (c : Passed) (from : Addr4) (port : ℕ) (src6 dst6 : Addr6) (freed : List Parcel) → IsNoError c.taken.content → IsTaken4 c.taken c.octets → FitsAnswer (Out from port src6 dst6 freed)
+through_out : (domain : Domain) (c : Passed) (from : Addr4) (port : ℕ) (src6 dst6 : Addr6) (freed : List Parcel) → IsTaken4 c.taken c.octets → FitsAnswer (Out from port src6 dst6 freed)
     → EdgeSends domain.mtus (Out from port src6 dst6 freed) c.taken c.octets c.passage → IsEmitted domain.mtus c.passage c.portion c.six → IsThrough domain c (ends_out (flow_of4 c.taken.content) port src6 dst6)
-through_out domain c from port src6 dst6 freed fine taken fits sent emitted =
+through_out domain c from port src6 dst6 freed taken fits sent emitted =
     let flow = flow_of4 c.taken.content in
     record {
-      fine = fine;
       taken = taken;
-      fits = record { src = fits.1; dst = fits.2; ports = near_fits flow.proto flow.fault port flow.ports fits.0 (ports_fit c.taken c.octets fine taken) };
+      fits = record { src = fits.1; dst = fits.2; inner_src = fits.2; inner_dst = fits.1; ports = near_fits flow.proto flow.fault port flow.ports fits.0 (ports_fit c.taken c.octets taken) };
       passage = sent;
       emitted = emitted;
     }
 
-pub to_relay : (domain : Domain) (step : Step) (answer : Answer) (relay : Relay) (c : Passed) → IsNoError c.taken.content → ToRelay domain step answer relay c → IsOneStep domain (answer ∷ []) c
-to_relay domain step (Out from port src6 dst6 freed) relay c fine is =
+pub to_relay : (domain : Domain) (step : Step) (answer : Answer) (relay : Relay) (c : Passed) → ToRelay domain step answer relay c → IsOneStep domain (answer ∷ []) c
+to_relay domain step (Out from port src6 dst6 freed) relay c is =
     let p = c.taken in
     let q = c.read in
     let got = is.received in
     let flow4 = flow_of4 p.content in
     let six = ends_out flow4 port src6 dst6 in
     let plain = ends64 got.src got.dst got.ports in
-    let given = ends64 got.src got.dst six.ports in
-    let through = through_out domain c from port src6 dst6 freed fine is.taken is.fits is.sent is.emitted in
+    let given : Ends Addr4 = record { src = got.src; dst = got.dst; inner_src = near_inner p.content from; inner_dst = from; ports = six.ports } in
+    let inside = within p c.octets is.taken in
+    let through = through_out domain c from port src6 dst6 freed is.taken is.fits is.sent is.emitted in
     let saw = sees domain c six plain true through is.arrives in
-    let are = ports_fit p c.octets fine is.taken in
+    let are = ports_fit p c.octets is.taken in
     let holds = holds_out domain.dmr step p.head.dst from port src6 dst6 freed is.rules (dst_fits p.head c.octets is.taken.are is.taken.is.is.fields) is.answered in
     let source : ipv4_behind domain.dmr src6.0 ≡ Some got.src.0 = subst (λ (d : Dmr). ipv4_behind d src6.0 ≡ Some got.src.0) is.relay_is.dmr (subst (λ (a : Addr6). ipv4_behind relay.dmr a.0 ≡ Some got.src.0) saw.ends.src (sourced relay q.head.src (source_port (flow_of6 q.content).fault got.ports) got.src got.source)) in
     let destination : ipv4_behind domain.dmr dst6.0 ≡ Some got.dst.0 = subst (λ (d : Dmr). ipv4_behind d dst6.0 ≡ Some got.dst.0) is.relay_is.dmr (subst (λ (a : Addr6). ipv4_behind relay.dmr a.0 ≡ Some got.dst.0) saw.ends.dst (extracted_holds relay.dmr q.head.dst.0 got.dst.0 got.destination)) in
@@ -216,16 +284,17 @@ to_relay domain step (Out from port src6 dst6 freed) relay c fine is =
       replaced = sent_from from port p;
       by_answers = refl;
       comes = elim saw.flow [
-        | inl flow ↦ comes_of domain c six plain true from p.head.dst (content_from from port p.content) through is.arrives got.is.0 makes src dst (source_replaced p.content port from plain q.content fine is.fits.0 are flow got.flow)
+        | inl flow ↦ comes_of domain c six plain true from p.head.dst (content_from from port p.content) through is.arrives got.is.0 makes src dst
+            (source_given p.content port from plain is.fits.0 are (read_near p.content port src6 dst6 q.content got.ports flow got.flow) (inner_out p.content plain from p.head.dst inside dst src))
         | inr later ↦ comes_of domain c six given true from p.head.dst (content_from from port p.content) through is.arrives got.is.0
-            (later_back domain.mtus (id_of domain) q c.six c.four got.src got.dst got.dst got.src got.dst got.src got.ports six.ports later.0 later.1 makes) src dst (source_given p.content port from given fine is.fits.0 are refl)
+            (later_back domain.mtus (id_of domain) q c.six c.four got.src got.dst got.dst got.src given.inner_src given.inner_dst got.ports six.ports later.0 later.1 makes) src dst (source_given p.content port from given is.fits.0 are (ports_same p.content six.ports) (out_given p.content given from refl refl))
       ];
     }
-to_relay domain step (Turn from port freed) relay c fine is = absurd is.sent
-to_relay domain step (In to port from peer freed) relay c fine is = absurd is.sent
-to_relay domain step (Kept port until) relay c fine is = absurd is.sent
-to_relay domain step Held relay c fine is = absurd is.sent
-to_relay domain step (Refused cause freed) relay c fine is = absurd is.sent
+to_relay domain step (Turn from port freed) relay c is = absurd is.sent
+to_relay domain step (In to port from peer freed) relay c is = absurd is.sent
+to_relay domain step (Kept port until) relay c is = absurd is.sent
+to_relay domain step Held relay c is = absurd is.sent
+to_relay domain step (Refused cause freed) relay c is = absurd is.sent
 
 -- ---- to an edge
 
@@ -236,19 +305,27 @@ from_told domain step q to port from peer freed rules answered =
     let way = way_in step.prefix step.state step.moment answered.fault answered.proto answered.port answered.dst q.head.src (near_addr6 q q.content) answered.far_port answered.flags answered.part freed to port from peer answered.is in
     behind_holds (rules_at step) domain.dmr q.head.src.0 way.port from rules.fixed way.from_is
 
+-- and behind the remote address of its flow
+peer_told : (domain : Domain) (step : Step) (q : Packet6) (to : Addr4) (port : ℕ) (from peer : Addr4) (freed : List Parcel) → AreRulesOf domain.dmr (rules_at step)
+    → AnsweredIn step q.head.src (near_addr6 q q.content) (In to port from peer freed) → ipv4_behind domain.dmr (near_addr6 q q.content).0 ≡ Some peer.0
+peer_told domain step q to port from peer freed rules answered =
+    let way = way_in step.prefix step.state step.moment answered.fault answered.proto answered.port answered.dst q.head.src (near_addr6 q q.content) answered.far_port answered.flags answered.part freed to port from peer answered.is in
+    behind_holds (rules_at step) domain.dmr (near_addr6 q q.content).0 way.port peer rules.fixed way.far_is
+
 passage_with : (mtus domain_mtus : Mtus) (p : Packet4) (payload : List ℕ) (ends : Ends Addr6) (passage : Passage) → mtus ≡ domain_mtus → IsPassage46 mtus p payload ends passage → IsPassage46 domain_mtus p payload ends passage
 passage_with mtus domain_mtus p payload ends passage same is = subst (λ (m : Mtus). IsPassage46 m p payload ends passage) same is
 
-pub from_relay : (domain : Domain) (relay : Relay) (step : Step) (answer : Answer) (c : Passed) → IsNoError c.taken.content → FromRelay domain relay step answer c → IsOneStep domain (answer ∷ []) c
-from_relay domain relay step (In to port from peer freed) c fine is =
+pub from_relay : (domain : Domain) (relay : Relay) (step : Step) (answer : Answer) (c : Passed) → FromRelay domain relay step answer c → IsOneStep domain (answer ∷ []) c
+from_relay domain relay step (In to port from peer freed) c is =
     let p = c.taken in
     let q = c.read in
     let flow4 = flow_of4 p.content in
     let ports = is.sent.ports in
     let six = ends46 relay p is.sent.own ports in
     let plain = ends_in (flow_of6 q.content) to port from peer in
-    let given : Ends Addr4 = record { src = from; dst = to; inner_src = to; inner_dst = peer; ports = with_far_port flow4.proto flow4.fault port ports } in
-    let through : IsThrough domain c six = record { fine = fine; taken = is.taken; fits = is.sent.fits; passage = passage_with relay.params.mtus domain.mtus p (payload_of4 p.head c.octets) six c.passage is.relay_is.mtus is.sent.is; emitted = is.emitted } in
+    let given : Ends Addr4 = record { src = from; dst = to; inner_src = to; inner_dst = far_inner p.content to; ports = with_far_port flow4.proto flow4.fault port ports } in
+    let inside = within p c.octets is.taken in
+    let through : IsThrough domain c six = record { taken = is.taken; fits = is.sent.fits; passage = passage_with relay.params.mtus domain.mtus p (payload_of4 p.head c.octets) six c.passage is.relay_is.mtus is.sent.is; emitted = is.emitted } in
     let saw = sees domain c six plain false through is.arrives in
     let small = src_fits p.head c.octets is.taken.are is.taken.is.is.fields in
     let told : ipv4_behind domain.dmr (embedded_in relay.dmr p.head.src).0 ≡ Some from.0 = subst (λ (a : Addr6). ipv4_behind domain.dmr a.0 ≡ Some from.0) saw.ends.src (from_told domain step q to port from peer freed is.rules is.answered) in
@@ -259,19 +336,20 @@ from_relay domain relay step (In to port from peer freed) c fine is =
       replaced = received_at to port p;
       by_answers = refl;
       comes = elim saw.flow [
-        | inl flow ↦ comes_of domain c six plain false p.head.src to (content_to to port p.content) through is.arrives is.received.0 makes src refl (destination_replaced p.content ports port to plain q.content fine is.fits is.sent.fits.ports is.sent.flow flow refl)
+        | inl flow ↦ comes_of domain c six plain false p.head.src to (content_to to port p.content) through is.arrives is.received.0 makes src refl
+            (destination_given p.content ports port to plain is.fits is.sent.fits.ports is.sent.flow (read_far p.content six port q.content flow) (inner_in domain.dmr relay p.content p.head.src p.head.dst peer to six plain q is.relay_is.dmr refl flow inside (peer_told domain step q to port from peer freed is.rules is.answered) refl refl))
         | inr later ↦ comes_of domain c six given false p.head.src to (content_to to port p.content) through is.arrives is.received.0
-            (later_back domain.mtus (id_of domain) q c.six c.four from to to peer to peer plain.ports given.ports later.0 later.1 makes) src refl (destination_given p.content ports port to given fine is.fits is.sent.fits.ports is.sent.flow refl)
+            (later_back domain.mtus (id_of domain) q c.six c.four from to to peer to given.inner_dst plain.ports given.ports later.0 later.1 makes) src refl (destination_given p.content ports port to given is.fits is.sent.fits.ports is.sent.flow (ports_same p.content given.ports) (in_given p.content given to refl refl))
       ];
     }
-from_relay domain relay step (Out from port src6 dst6 freed) c fine is = absurd is.received
-from_relay domain relay step (Turn from port freed) c fine is = absurd is.received
-from_relay domain relay step (Kept port until) c fine is = absurd is.received
-from_relay domain relay step Held c fine is = absurd is.received
-from_relay domain relay step (Refused cause freed) c fine is = absurd is.received
+from_relay domain relay step (Out from port src6 dst6 freed) c is = absurd is.received
+from_relay domain relay step (Turn from port freed) c is = absurd is.received
+from_relay domain relay step (Kept port until) c is = absurd is.received
+from_relay domain relay step Held c is = absurd is.received
+from_relay domain relay step (Refused cause freed) c is = absurd is.received
 
-pub edge_to_edge : (domain : Domain) (one other : End) (c : Passed) → IsNoError c.taken.content → EdgeToEdge domain one other c → IsOneStep domain (one.answer ∷ other.answer ∷ []) c
-edge_to_edge domain one other c fine is = by one.answer other.answer is.out is.fits_out is.sent is.inward is.fits_in is.received
+pub edge_to_edge : (domain : Domain) (one other : End) (c : Passed) → EdgeToEdge domain one other c → IsOneStep domain (one.answer ∷ other.answer ∷ []) c
+edge_to_edge domain one other c is = by one.answer other.answer is.out is.fits_out is.sent is.inward is.fits_in is.received
   where
     by : (out inward : Answer) → AnsweredOut one.step c.taken.head.dst out → FitsAnswer out → EdgeSends domain.mtus out c.taken c.octets c.passage
         → AnsweredIn other.step c.read.head.src (near_addr6 c.read c.read.content) inward → FitsAnswer inward → EdgeReceives domain.mtus (id_of domain) inward c.read c.six (Sent c.four)
@@ -282,10 +360,10 @@ edge_to_edge domain one other c fine is = by one.answer other.answer is.out is.f
         let flow4 = flow_of4 p.content in
         let six = ends_out flow4 out_port src6 dst6 in
         let plain = ends_in (flow_of6 q.content) to port from peer in
-        let given : Ends Addr4 = record { src = from; dst = to; inner_src = to; inner_dst = peer; ports = with_far_port flow4.proto flow4.fault port six.ports } in
-        let through = through_out domain c out_from out_port src6 dst6 out_freed fine is.taken fits sent is.emitted in
+        let given : Ends Addr4 = record { src = from; dst = to; inner_src = to; inner_dst = out_from; ports = with_far_port flow4.proto flow4.fault port six.ports } in
+        let through = through_out domain c out_from out_port src6 dst6 out_freed is.taken fits sent is.emitted in
         let saw = sees domain c six plain false through is.arrives in
-        let are = ports_fit p c.octets fine is.taken in
+        let are = ports_fit p c.octets is.taken in
         let holds = holds_out domain.dmr one.step p.head.dst out_from out_port src6 dst6 out_freed is.rules_out (dst_fits p.head c.octets is.taken.are is.taken.is.is.fields) answered in
         let told : ipv4_behind domain.dmr src6.0 ≡ Some from.0 = subst (λ (a : Addr6). ipv4_behind domain.dmr a.0 ≡ Some from.0) saw.ends.src (from_told domain other.step q to port from peer freed is.rules_in answered_in) in
         let src = one_behind domain.dmr src6.0 from out_from told holds.source in
@@ -295,9 +373,10 @@ edge_to_edge domain one other c fine is = by one.answer other.answer is.out is.f
           replaced = received_at to port (sent_from out_from out_port p);
           by_answers = refl;
           comes = elim saw.flow [
-            | inl flow ↦ comes_of domain c six plain false out_from to content through is.arrives received.0 makes src refl (both_replaced p.content out_port port out_from to plain q.content fine fits.0 fits_in are flow refl)
+            | inl flow ↦ comes_of domain c six plain false out_from to content through is.arrives received.0 makes src refl
+                (both_given p.content out_port port out_from to plain fits.0 fits_in are (read_far p.content six port q.content flow) (inner_both domain.dmr p.content out_from peer to six plain q holds.source flow (peer_told domain other.step q to port from peer freed is.rules_in answered_in) refl refl))
             | inr later ↦ comes_of domain c six given false out_from to content through is.arrives received.0
-                (later_back domain.mtus (id_of domain) q c.six c.four from to to peer to peer plain.ports given.ports later.0 later.1 makes) src refl (both_given p.content out_port port out_from to given fine fits.0 fits_in are refl)
+                (later_back domain.mtus (id_of domain) q c.six c.four from to to peer to out_from plain.ports given.ports later.0 later.1 makes) src refl (both_given p.content out_port port out_from to given fits.0 fits_in are (ports_same p.content given.ports) (both_ends p.content given out_from to refl refl))
           ];
         }
     by (Out out_from out_port src6 dst6 out_freed) (Out from port src dst freed) answered fits sent answered_in fits_in received = absurd received

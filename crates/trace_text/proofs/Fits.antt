@@ -1,11 +1,19 @@
 -- Numbers that are read of octets fit their fields.
-use Rattle.std.proofs.Common.{◌≡◌, ℕ, suc, ◌+◌, ◌*◌, ◌-◌, ◌/◌, ◌^◌, ◌<◌, ◌≤◌, Bool, true, false, cond, List, length, take, drop, refl, sym, ap, ◌∙◌, subst, arith}
+use Rattle.std.proofs.Common.{◌≡◌, ℕ, suc, ◌+◌, ◌*◌, ◌-◌, ◌/◌, ◌%◌, ◌^◌, ◌<◌, ◌≤◌, Bool, true, false, cond, List, length, take, drop, refl, sym, ap, ◌∙◌, subst, arith}
+use Rattle.std.specs.Prelude.{◌==◌}
 use Rattle.std.proofs.lemmas.List.{places}
 use Rattle.octets.specs.Field.{octet, word, quad, part}
 use Rattle.octets.specs.declared.proto.Proto.{Proto}
 use Rattle.octets.specs.declared.proto.Proto.TheVariants.{Tcp, Udp, Icmp}
 use Rattle.ip4_packet.specs.declared.head.Head4.{Head4}
 use Rattle.ip4_packet.specs.Grammar.{HasFields4, payload_of4}
+use Rattle.octets.specs.declared.address.Addr4.{Addr4}
+use Rattle.icmp_messages.specs.declared.icmp4.Icmp4.{Icmp4}
+use Rattle.icmp_messages.specs.declared.inner4.Inner4.{Inner4}
+use Rattle.icmp_messages.specs.Inner.{IsInner4}
+use Rattle.icmp_xlat.specs.declared.table.Row.{Row}
+use Rattle.icmp_xlat.specs.Icmp46.{embedded46}
+use Rattle.l4_headers.specs.declared.ports.Ports.{Ports}
 use Rattle.l4_headers.specs.declared.ports.L4.{L4}
 use Rattle.l4_headers.specs.Transport.{l4_of}
 use Rattle.xlat46.specs.Whole.{ArePorts}
@@ -13,8 +21,8 @@ use Rattle.packets.specs.declared.packet4.Content4.{Content4}
 use Rattle.packets.specs.declared.packet4.Content4.TheVariants.{Segment, Later, Query, Error}
 use Rattle.packets.specs.declared.packet4.Packet4.{Packet4}
 use Rattle.packets.specs.Asked.{flow_of4}
-use Rattle.packets.specs.Packet4.{IsContent4}
-use Rattle.crossing.specs.Transfer.{FitsHead, IsNoError}
+use Rattle.packets.specs.Packet4.{IsContent4, IsErrorOf4}
+use Rattle.crossing.specs.Transfer.{FitsHead, FitsContent}
 use Rattle.trace_text.specs.Hops.{AreOctets, IsTaken4}
 
 word_fits : (xs : List ℕ) (at : ℕ) → AreOctets xs → word xs at < 65536
@@ -50,13 +58,65 @@ l4_ports Icmp payload are = (word_fits payload 4 are, word_fits payload 4 are)
 high_fits : (n : ℕ) → n < 2 ^ 32 → n / 2 ^ 16 < 65536
 high_fits n small = omega arith
 
-content_ports : (h : Head4) (payload : List ℕ) (content : Content4) → IsNoError content → AreOctets payload → IsContent4 h payload content → ArePorts (flow_of4 content).ports
-content_ports h payload (Segment proto l4) fine are has = subst (λ (l : L4). ArePorts l.ports) (sym has.header) (l4_ports proto payload are)
-content_ports h payload (Later proto) fine are has = (omega arith, omega arith)
-content_ports h payload (Query m row) fine are has =
+drop_octets : (xs : List ℕ) (n : ℕ) → AreOctets xs → AreOctets (drop n xs)
+drop_octets xs n are = λ k. grind (arith, places, are (n + k))
+
+take_octets : (xs : List ℕ) (n : ℕ) → AreOctets xs → AreOctets (take n xs)
+take_octets xs n are = λ k. grind (arith, places, are k)
+
+-- what an error embeds
+embedded_octets : (m : Icmp4) (payload : List ℕ) → AreOctets payload → m.body ≡ drop 8 payload → AreOctets (embedded46 m)
+embedded_octets m payload are is = by (m.rest / 2 ^ 16 % 256 == 0)
+  where
+    body : AreOctets m.body
+    body = subst (λ (xs : List ℕ). AreOctets xs) (sym is) (drop_octets payload 8 are)
+
+    by : (b : Bool) → AreOctets (cond b m.body (take (4 * (m.rest / 2 ^ 16 % 256)) m.body))
+    by true = body
+    by false = take_octets m.body (4 * (m.rest / 2 ^ 16 % 256)) body
+
+pub record FitsEmbedded (inner : Inner4) : Type 0 where
+  pub head : FitsHead inner.head
+  pub dst : inner.head.dst.0 < 2 ^ 32
+  pub ports : ArePorts inner.ports
+
+inner_fits : (inner : Inner4) (octets : List ℕ) → AreOctets octets → IsInner4 inner octets → FitsEmbedded inner
+inner_fits inner octets are is = record {
+  head = head_fits inner.head octets are is.header.fields;
+  dst = dst_fits inner.head octets are is.header.fields;
+  ports = subst (λ (p : Ports). ArePorts p) (sym is.ports) (l4_ports inner.proto inner.payload (subst (λ (xs : List ℕ). AreOctets xs) (sym is.payload) (part_octets octets inner.head.head_len (inner.head.total - inner.head.head_len) are)));
+}
+
+error_fits : (h : Head4) (payload : List ℕ) (m : Icmp4) (row : Row) (inner : Inner4) → AreOctets payload → IsErrorOf4 h payload m row inner → FitsEmbedded inner
+error_fits h payload m row inner are has = inner_fits inner (embedded46 m) (embedded_octets m payload are has.message.message.body) has.embedded
+
+content_ports : (h : Head4) (payload : List ℕ) (content : Content4) → AreOctets payload → IsContent4 h payload content → ArePorts (flow_of4 content).ports
+content_ports h payload (Segment proto l4) are has = subst (λ (l : L4). ArePorts l.ports) (sym has.header) (l4_ports proto payload are)
+content_ports h payload (Later proto) are has = (omega arith, omega arith)
+content_ports h payload (Query m row) are has =
     let rest : m.rest < 2 ^ 32 = omega (arith, has.0.message.rest, quad_fits payload 4 are) in
     (high_fits m.rest rest, high_fits m.rest rest)
-content_ports h payload (Error m row inner) fine are has = absurd fine
+content_ports h payload (Error m row inner) are has = (error_fits h payload m row inner are has).ports
 
-pub ports_fit : (p : Packet4) (octets : List ℕ) → IsNoError p.content → IsTaken4 p octets → ArePorts (flow_of4 p.content).ports
-ports_fit p octets fine taken = content_ports p.head (payload_of4 p.head octets) p.content fine (part_octets octets p.head.head_len (p.head.total - p.head.head_len) taken.are) taken.is.content
+pub ports_fit : (p : Packet4) (octets : List ℕ) → IsTaken4 p octets → ArePorts (flow_of4 p.content).ports
+ports_fit p octets taken = content_ports p.head (payload_of4 p.head octets) p.content (part_octets octets p.head.head_len (p.head.total - p.head.head_len) taken.are) taken.is.content
+
+-- of an error also what it embeds
+abbrev pub FitsWithin : Content4 → Addr4 → Type 0
+FitsWithin (Error m row inner) dst = FitsEmbedded inner × (inner.head.src ≡ dst)
+FitsWithin _ dst = Unit {0}
+
+content_within : (h : Head4) (payload : List ℕ) (content : Content4) → AreOctets payload → IsContent4 h payload content → FitsWithin content h.dst
+content_within h payload (Segment proto l4) are has = tt
+content_within h payload (Later proto) are has = tt
+content_within h payload (Query m row) are has = tt
+content_within h payload (Error m row inner) are has = (error_fits h payload m row inner are has, has.answers)
+
+pub within : (p : Packet4) (octets : List ℕ) → IsTaken4 p octets → FitsWithin p.content p.head.dst
+within p octets taken = content_within p.head (payload_of4 p.head octets) p.content (part_octets octets p.head.head_len (p.head.total - p.head.head_len) taken.are) taken.is.content
+
+pub content_fits : (content : Content4) (dst : Addr4) → FitsWithin content dst → FitsContent content
+content_fits (Segment proto l4) dst is = tt
+content_fits (Later proto) dst is = tt
+content_fits (Query m row) dst is = tt
+content_fits (Error m row inner) dst is = is.0.head

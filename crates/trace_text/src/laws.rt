@@ -10,7 +10,6 @@ ghost use Rattle.rule_book.specs.declared.view.FarOf.TheVariants.{Addr};
 ghost use Rattle.rule_book.specs.Far.{far_of};
 ghost use Rattle.nat_model.specs.declared.answer.Answer.{Answer};
 ghost use Rattle.relay_node.specs.Relay.{Relay};
-ghost use Rattle.crossing.specs.Transfer.{IsNoError};
 ghost use Rattle.trace_text.specs.Answered.{Step};
 ghost use Rattle.trace_text.specs.Behind.{ipv4_behind};
 ghost use Rattle.trace_text.specs.Crossings.{Passed, Domain, End, ToRelay, FromRelay, EdgeToEdge, IsOneStep};
@@ -19,21 +18,21 @@ ghost use Rattle.trace_text.specs.Crossings.{Passed, Domain, End, ToRelay, FromR
 /// answer, but for the named header changes.
 pub fn a_packet_to_the_relay_is_one_step()
     ensures { (domain : Domain) (step : Step) (answer : Answer) (relay : Relay) (c : Passed)
-        → IsNoError c.taken.content → ToRelay domain step answer relay c → IsOneStep domain (answer ∷ []) c }
+        → ToRelay domain step answer relay c → IsOneStep domain (answer ∷ []) c }
 {}
 
 /// From the relay to an edge: what the edge sends to its LAN is the packet of the core with the host and port of the machine's
 /// answer, but for the named header changes.
 pub fn a_packet_from_the_relay_is_one_step()
     ensures { (domain : Domain) (relay : Relay) (step : Step) (answer : Answer) (c : Passed)
-        → IsNoError c.taken.content → FromRelay domain relay step answer c → IsOneStep domain (answer ∷ []) c }
+        → FromRelay domain relay step answer c → IsOneStep domain (answer ∷ []) c }
 {}
 
 /// From an edge to an edge, by a forwarding rule: what the second edge sends to its LAN is the first host's packet with what both
 /// machines' answers replace, one after the other, but for the named header changes.
 pub fn a_packet_between_edges_is_two_steps()
     ensures { (domain : Domain) (one other : End) (c : Passed)
-        → IsNoError c.taken.content → EdgeToEdge domain one other c → IsOneStep domain (one.answer ∷ other.answer ∷ []) c }
+        → EdgeToEdge domain one other c → IsOneStep domain (one.answer ∷ other.answer ∷ []) c }
 {}
 
 /// An IPv6 source that is accepted, outer or embedded, is inside the default mapping rule and embeds the IPv4 address, or is a
