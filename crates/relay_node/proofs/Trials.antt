@@ -53,11 +53,11 @@ to_nobody =
 
 the_home_gets_its_own : (home other : Prefix6) (dmr : Dmr) → AreHomes home other dmr
     → route_of (homes home other dmr) (Access to_home) ≡ edge 0
-the_home_gets_its_own home other dmr is = rw (is.bits, is.len, is.other_bits, is.other_len, is.dmr_bits, is.dmr_len) refl
+the_home_gets_its_own home other dmr is = rw (is.bits, is.len) refl
 
 the_other_home_gets_its_own : (home other : Prefix6) (dmr : Dmr) → AreHomes home other dmr
     → route_of (homes home other dmr) (Access to_other) ≡ edge 1
-the_other_home_gets_its_own home other dmr is = rw (is.bits, is.len, is.other_bits, is.other_len, is.dmr_bits, is.dmr_len) refl
+the_other_home_gets_its_own home other dmr is = rw (is.bits, is.len, is.other_bits, is.other_len) refl
 
 what_embeds_an_address_is_the_relays : (home other : Prefix6) (dmr : Dmr) → AreHomes home other dmr
     → route_of (homes home other dmr) (Access to_far) ≡ relay
