@@ -109,6 +109,9 @@ const FROM_ITSELF: Row = Row {
     ..FROM_LAN
 };
 
+/// A packet that the machine refuses, or that is dropped alone: its name, where it comes from, the packet, and the cause.
+type Refusal = (&'static str, Way, &'static str, Cause);
+
 /// Whole packets and their sums.
 const WHOLE: [Row; 6] = [
     Row {
@@ -184,8 +187,8 @@ const WHOLE: [Row; 6] = [
     },
 ];
 
-/// Packets that are too long, and those that just fit.
-const LONG: [Row; 12] = [
+/// Packets from the LAN that are too long, and one that just fits.
+const LONG_OUT: [Row; 4] = [
     Row {
         name: "a packet that is too long is cut in two",
         packet: Long(
@@ -264,6 +267,10 @@ const LONG: [Row; 12] = [
         dropped: &[Cause::TooBig],
         ..FROM_LAN
     },
+];
+
+/// Pieces of fragments, and of what is longer.
+const CUT: [Row; 3] = [
     Row {
         name: "a first fragment is cut, and all pieces say that more follow",
         packet: Long(
@@ -349,6 +356,10 @@ const LONG: [Row; 12] = [
         ],
         ..FROM_LAN
     },
+];
+
+/// Packets from the access network that are long or too long.
+const LONG_IN: [Row; 5] = [
     Row {
         name: "a long packet without one may not",
         packet: Long(
@@ -434,7 +445,7 @@ const LONG: [Row; 12] = [
 ];
 
 /// Fragments from the LAN.
-const FRAGMENTS_OUT: [Row; 8] = [
+const FRAGMENTS_OUT: [Row; 5] = [
     Row {
         name: "a first fragment is noted",
         packet: Plain("450000241235200040115ca7c0a8010ac633640713880035003082520001020304050607"),
@@ -492,6 +503,17 @@ const FRAGMENTS_OUT: [Row; 8] = [
         ],
         ..FROM_LAN
     },
+    Row {
+        name: "there is no room for a fragment",
+        packet: Plain("450000241235200240115ca5c0a8010ac633640708090a0b0c0d0e0f1011121314151617"),
+        told: Told::Refused(Cause::FragmentsFull),
+        dropped: &[Cause::FragmentsFull],
+        ..FROM_LAN
+    },
+];
+
+/// Fragments that one from the LAN frees.
+const FREED_OUT: [Row; 3] = [
     Row {
         name: "freed octets that are no later fragment here are passed over",
         packet: Plain("450000241235200040115ca7c0a8010ac633640713880035003082520001020304050607"),
@@ -562,17 +584,10 @@ const FRAGMENTS_OUT: [Row; 8] = [
         ],
         ..FROM_LAN
     },
-    Row {
-        name: "there is no room for a fragment",
-        packet: Plain("450000241235200240115ca5c0a8010ac633640708090a0b0c0d0e0f1011121314151617"),
-        told: Told::Refused(Cause::FragmentsFull),
-        dropped: &[Cause::FragmentsFull],
-        ..FROM_LAN
-    },
 ];
 
-/// Fragments from the access network.
-const FRAGMENTS_IN: [Row; 6] = [
+/// Fragments from the access network, and one that is whole.
+const FRAGMENTS_IN: [Row; 4] = [
     Row {
         name: "a first fragment comes in before those that it frees",
         packet: Plain(
@@ -622,6 +637,21 @@ const FRAGMENTS_IN: [Row; 6] = [
         ..FROM_ACCESS
     },
     Row {
+        name: "a whole packet with a Fragment Header may be cut on, by the low 16 bits of its identification",
+        packet: Plain(
+            "6000000000122c3f20010db8ffff000000c633640700000020010db8001234000000c0000212003411000000abcd1237003504d0000a05776869",
+        ),
+        sent: &[(
+            To::Lan,
+            Plain("4500001e123700003e117eabc6336407c0a8010a00351388000a97c66869"),
+        )],
+        ..FROM_ACCESS
+    },
+];
+
+/// Fragments that one from the access network frees.
+const FREED_IN: [Row; 2] = [
+    Row {
         name: "a spoofed first fragment and each that it frees are dropped for one cause",
         packet: Plain(
             "6000000000182c3f20010db8ffff000000c633640700000020010db8001234000000c0000212003411000001abcd1236003504d00030f0020001020304050607",
@@ -665,17 +695,6 @@ const FRAGMENTS_IN: [Row; 6] = [
                 Plain("45000024123620023e115ea4c6336407c0a8010a08090a0b0c0d0e0f1011121314151617"),
             ),
         ],
-        ..FROM_ACCESS
-    },
-    Row {
-        name: "a whole packet with a Fragment Header may be cut on, by the low 16 bits of its identification",
-        packet: Plain(
-            "6000000000122c3f20010db8ffff000000c633640700000020010db8001234000000c0000212003411000000abcd1237003504d0000a05776869",
-        ),
-        sent: &[(
-            To::Lan,
-            Plain("4500001e123700003e117eabc6336407c0a8010a00351388000a97c66869"),
-        )],
         ..FROM_ACCESS
     },
 ];
@@ -746,7 +765,7 @@ const SPENT: [Row; 6] = [
 ];
 
 /// Errors about packets of the home, and of its hosts.
-const ERRORS: [Row; 8] = [
+const ERRORS: [Row; 4] = [
     Row {
         name: "time exceeded from the relay, about a packet of the host",
         packet: Plain(
@@ -788,6 +807,23 @@ const ERRORS: [Row; 8] = [
         )],
         ..FROM_ACCESS
     },
+    Row {
+        name: "an error from a router of the home, about a packet to a host",
+        packet: Plain(
+            "4500003a0001000040018eddc0a80102c63364070301e907000000004500001e000100003c1192e1c6336407c0a8010a00351388000a97c66869",
+        ),
+        sent: &[(
+            To::Access,
+            Plain(
+                "60000000003a3a3f20010db8001234000000c0000212003420010db8ffff000000c63364070000000100006b0000000060000000000a113c20010db8ffff000000c633640700000020010db8001234000000c00002120034003504d0000a05776869",
+            ),
+        )],
+        ..FROM_LAN
+    },
+];
+
+/// Pointers, and what is behind an embedded packet.
+const POINTERS: [Row; 4] = [
     Row {
         name: "parameter problem: its pointer moves",
         packet: Plain(
@@ -836,19 +872,6 @@ const ERRORS: [Row; 8] = [
             To::Access,
             Plain(
                 "60000000003a3a3f20010db8001234000000c0000212003420010db8ffff000000c63364070000000300fe660000000060000000000a114020010db8ffff000000c633640700000020010db8001234000000c00002120034003504d0000a05776869",
-            ),
-        )],
-        ..FROM_LAN
-    },
-    Row {
-        name: "an error from a router of the home, about a packet to a host",
-        packet: Plain(
-            "4500003a0001000040018eddc0a80102c63364070301e907000000004500001e000100003c1192e1c6336407c0a8010a00351388000a97c66869",
-        ),
-        sent: &[(
-            To::Access,
-            Plain(
-                "60000000003a3a3f20010db8001234000000c0000212003420010db8ffff000000c63364070000000100006b0000000060000000000a113c20010db8ffff000000c633640700000020010db8001234000000c00002120034003504d0000a05776869",
             ),
         )],
         ..FROM_LAN
@@ -941,8 +964,8 @@ const MTUS: [Row; 6] = [
     },
 ];
 
-/// What errors embed.
-const EMBEDDED: [Row; 8] = [
+/// Embedded echoes and sums.
+const EMBEDDED: [Row; 4] = [
     Row {
         name: "an embedded echo has the outside identifier",
         packet: Plain(
@@ -996,6 +1019,10 @@ const EMBEDDED: [Row; 8] = [
         )],
         ..FROM_LAN
     },
+];
+
+/// How much an error embeds.
+const EMBEDDED_LENGTHS: [Row; 4] = [
     Row {
         name: "an error that grows beyond 1280 octets has its embedded packet cut",
         packet: Long(
@@ -1055,7 +1082,7 @@ const EMBEDDED: [Row; 8] = [
 ];
 
 /// Packets that the edge turns, and those that it turned.
-const TURNED: [Row; 10] = [
+const TURNED: [Row; 5] = [
     Row {
         name: "a packet without a sum is turned without one",
         packet: Plain("460000220001c00040113403c0a8010bc000021201010100138808d1000a00006869ee"),
@@ -1095,6 +1122,29 @@ const TURNED: [Row; 10] = [
         )],
         ..FROM_ITSELF
     },
+    Row {
+        name: "a long packet is turned whole: no size is tested",
+        packet: Long(
+            "450005f8000140004011b12ec0a8010bc0000212138808d105e41dd4",
+            0,
+            1500,
+        ),
+        told: Told::Turn(1232),
+        mtus: NARROW,
+        sent: &[(
+            To::Itself,
+            Long(
+                "450005f8000140003f11b1cfc0000212c000021204d008d105e42c2d",
+                0,
+                1500,
+            ),
+        )],
+        ..FROM_LAN
+    },
+];
+
+/// Fragments of those.
+const TURNED_FRAGMENTS: [Row; 3] = [
     Row {
         name: "a first fragment is turned before those that it frees",
         packet: Plain("45000024333320004011a3d0c0a8010bc0000212138808d10030e1dd0001020304050607"),
@@ -1149,25 +1199,10 @@ const TURNED: [Row; 10] = [
         told: Told::Held,
         ..FROM_ITSELF
     },
-    Row {
-        name: "a long packet is turned whole: no size is tested",
-        packet: Long(
-            "450005f8000140004011b12ec0a8010bc0000212138808d105e41dd4",
-            0,
-            1500,
-        ),
-        told: Told::Turn(1232),
-        mtus: NARROW,
-        sent: &[(
-            To::Itself,
-            Long(
-                "450005f8000140003f11b1cfc0000212c000021204d008d105e42c2d",
-                0,
-                1500,
-            ),
-        )],
-        ..FROM_LAN
-    },
+];
+
+/// Errors about those.
+const TURNED_ERRORS: [Row; 2] = [
     Row {
         name: "an error about a turned packet: it goes back to where that came from",
         packet: Plain(
@@ -1198,8 +1233,8 @@ const TURNED: [Row; 10] = [
     },
 ];
 
-/// Source routes and segments left.
-const ROUTES: [Row; 7] = [
+/// Source routes.
+const ROUTES: [Row; 4] = [
     Row {
         name: "a source route of an error is answered by none",
         packet: Plain(
@@ -1244,6 +1279,10 @@ const ROUTES: [Row; 7] = [
         )],
         ..FROM_LAN
     },
+];
+
+/// Segments left.
+const SEGMENTS: [Row; 4] = [
     Row {
         name: "segments are left behind another header",
         packet: Plain(
@@ -1285,10 +1324,25 @@ const ROUTES: [Row; 7] = [
         dropped: &[Cause::SourceRoute],
         ..FROM_ACCESS
     },
+    Row {
+        name: "segments left come before another protocol",
+        packet: Plain(
+            "6000000000082b3f20010db8ffff000000c633640700000020010db8001234000000c000021200348400000200000000",
+        ),
+        told: Told::Nothing,
+        sent: &[(
+            To::Access,
+            Plain(
+                "6000000000383a4020010db8001234000000c0000212003420010db8ffff000000c63364070000000400d22d0000002b6000000000082b3f20010db8ffff000000c633640700000020010db8001234000000c000021200348400000200000000",
+            ),
+        )],
+        dropped: &[Cause::SourceRoute],
+        ..FROM_ACCESS
+    },
 ];
 
-/// Packets with more than one cause, and one that is turned.
-const LEAST: [Row; 5] = [
+/// Packets with more than one cause, and one without a sum that is turned.
+const LEAST: [Row; 4] = [
     Row {
         name: "a first fragment of UDP without a sum is not turned",
         packet: Plain("45000024000120004011d6a3c0000212c000021204d008d1003000000001020304050607"),
@@ -1317,139 +1371,94 @@ const LEAST: [Row; 5] = [
         dropped: &[Cause::IcmpKind],
         ..FROM_LAN
     },
-    Row {
-        name: "segments left come before another protocol",
-        packet: Plain(
-            "6000000000082b3f20010db8ffff000000c633640700000020010db8001234000000c000021200348400000200000000",
-        ),
-        told: Told::Nothing,
-        sent: &[(
-            To::Access,
-            Plain(
-                "6000000000383a4020010db8001234000000c0000212003420010db8ffff000000c63364070000000400d22d0000002b6000000000082b3f20010db8ffff000000c633640700000020010db8001234000000c000021200348400000200000000",
-            ),
-        )],
-        dropped: &[Cause::SourceRoute],
-        ..FROM_ACCESS
-    },
 ];
 
-/// Refusals of the machine.
-const REFUSED: [Row; 14] = [
-    Row {
-        name: "no rule fits the edge, from the LAN",
-        packet: Plain("4500001e0001000040118ee1c0a8010ac633640713880035000a97c66869"),
-        told: Told::Refused(Cause::NoBasicRule),
-        dropped: &[Cause::NoBasicRule],
-        ..FROM_LAN
-    },
-    Row {
-        name: "no more fragments are noted, from the LAN",
-        packet: Plain("450000240001200040116edbc0a8010ac6336407138800350030f3f30001020304050607"),
-        told: Told::Refused(Cause::FragmentsFull),
-        dropped: &[Cause::FragmentsFull],
-        ..FROM_LAN
-    },
-    Row {
-        name: "an error is about no binding, from the LAN",
-        packet: Plain(
-            "4500003a0001000040018ed5c0a8010ac63364070303e905000000004500001e0001000040118ee1c6336407c0a8010a00351388000a97c66869",
-        ),
-        told: Told::Refused(Cause::NoBinding),
-        dropped: &[Cause::NoBinding],
-        ..FROM_LAN
-    },
-    Row {
-        name: "no port is free, from the LAN",
-        packet: Plain("4500001e000100000111cde1c0a8010ac633640713880035000a97c66869"),
-        told: Told::Refused(Cause::NoPort),
-        dropped: &[Cause::NoPort],
-        ..FROM_LAN
-    },
-    Row {
-        name: "no rule fits the edge, from the access network",
-        packet: Plain(
-            "60000000000a113f20010db8ffff000000c633640700000020010db8001234000000c00002120034003504d0000a05776869",
-        ),
-        told: Told::Refused(Cause::NoBasicRule),
-        dropped: &[Cause::NoBasicRule],
-        ..FROM_ACCESS
-    },
-    Row {
-        name: "the destination is not the edge's MAP address, from the access network",
-        packet: Plain(
-            "60000000000a113f20010db8ffff000000c633640700000020010db8001235000000c00002120035003504d0000a04766869",
-        ),
-        told: Told::Refused(Cause::WrongDestination),
-        dropped: &[Cause::WrongDestination],
-        ..FROM_ACCESS
-    },
-    Row {
-        name: "no more fragments are held, from the access network",
-        packet: Long(
-            "6000000000282c3f20010db8ffff000000c633640700000020010db8001234000000c000021200341100001000000009",
-            8,
-            32,
-        ),
-        told: Told::Refused(Cause::FragmentsFull),
-        dropped: &[Cause::FragmentsFull],
-        ..FROM_ACCESS
-    },
-    Row {
-        name: "a source is not its rule's address, from the access network",
-        packet: Plain(
-            "60000000000a113f20010db8001235000000c0000212003520010db8001234000000c0000212003404d504d0000a44a76869",
-        ),
-        told: Told::Refused(Cause::Spoofed),
-        dropped: &[Cause::Spoofed],
-        ..FROM_ACCESS
-    },
-    Row {
-        name: "a source embeds no address, from the access network",
-        packet: Plain(
-            "60000000000a113f20010db8fffe0000000000000000000120010db8001234000000c00002120034003504d0000a40a16869",
-        ),
-        told: Told::Refused(Cause::NotDefault),
-        dropped: &[Cause::NotDefault],
-        ..FROM_ACCESS
-    },
-    Row {
-        name: "no binding has the port, from the access network",
-        packet: Plain(
-            "60000000000a110120010db8ffff000000c633640700000020010db8001234000000c00002120034003504d0000a05776869",
-        ),
-        told: Told::Refused(Cause::NoBinding),
-        dropped: &[Cause::NoBinding],
-        ..FROM_ACCESS
-    },
-    Row {
-        name: "no rule fits the edge, of a turned packet",
-        packet: Plain("4500001e000100004011f6a9c0000212c000021204d008d1000a05ab6869"),
-        told: Told::Refused(Cause::NoBasicRule),
-        dropped: &[Cause::NoBasicRule],
-        ..FROM_ITSELF
-    },
-    Row {
-        name: "the destination is no longer the edge's, of a turned packet",
-        packet: Plain("4500001e000100004011f6a9c0000212c000021204d008d1000a05ab6869"),
-        told: Told::Refused(Cause::WrongDestination),
-        dropped: &[Cause::WrongDestination],
-        ..FROM_ITSELF
-    },
-    Row {
-        name: "no more fragments are held, of a turned packet",
-        packet: Long("45000034000900024011f689c0000212c0000212", 8, 32),
-        told: Told::Refused(Cause::FragmentsFull),
-        dropped: &[Cause::FragmentsFull],
-        ..FROM_ITSELF
-    },
-    Row {
-        name: "no binding has the port, of a turned packet",
-        packet: Plain("4500001e000100004011f6a9c0000212c000021204d008d1000a05ab6869"),
-        told: Told::Refused(Cause::NoBinding),
-        dropped: &[Cause::NoBinding],
-        ..FROM_ITSELF
-    },
+/// Refusals of the machine: where the packet comes from, the packet, and the cause.
+const REFUSED: [Refusal; 14] = [
+    (
+        "no rule fits the edge, from the LAN",
+        Way::Lan,
+        "4500001e0001000040118ee1c0a8010ac633640713880035000a97c66869",
+        Cause::NoBasicRule,
+    ),
+    (
+        "no more fragments are noted, from the LAN",
+        Way::Lan,
+        "450000240001200040116edbc0a8010ac6336407138800350030f3f30001020304050607",
+        Cause::FragmentsFull,
+    ),
+    (
+        "an error is about no binding, from the LAN",
+        Way::Lan,
+        "4500003a0001000040018ed5c0a8010ac63364070303e905000000004500001e0001000040118ee1c6336407c0a8010a00351388000a97c66869",
+        Cause::NoBinding,
+    ),
+    (
+        "no port is free, from the LAN",
+        Way::Lan,
+        "4500001e000100000111cde1c0a8010ac633640713880035000a97c66869",
+        Cause::NoPort,
+    ),
+    (
+        "no rule fits the edge, from the access network",
+        Way::Access,
+        "60000000000a113f20010db8ffff000000c633640700000020010db8001234000000c00002120034003504d0000a05776869",
+        Cause::NoBasicRule,
+    ),
+    (
+        "the destination is not the edge's MAP address, from the access network",
+        Way::Access,
+        "60000000000a113f20010db8ffff000000c633640700000020010db8001235000000c00002120035003504d0000a04766869",
+        Cause::WrongDestination,
+    ),
+    (
+        "no more fragments are held, from the access network",
+        Way::Access,
+        "6000000000282c3f20010db8ffff000000c633640700000020010db8001234000000c00002120034110000100000000908090a0b0c0d0e0f101112131415161718191a1b1c1d1e1f2021222324252627",
+        Cause::FragmentsFull,
+    ),
+    (
+        "a source is not its rule's address, from the access network",
+        Way::Access,
+        "60000000000a113f20010db8001235000000c0000212003520010db8001234000000c0000212003404d504d0000a44a76869",
+        Cause::Spoofed,
+    ),
+    (
+        "a source embeds no address, from the access network",
+        Way::Access,
+        "60000000000a113f20010db8fffe0000000000000000000120010db8001234000000c00002120034003504d0000a40a16869",
+        Cause::NotDefault,
+    ),
+    (
+        "no binding has the port, from the access network",
+        Way::Access,
+        "60000000000a110120010db8ffff000000c633640700000020010db8001234000000c00002120034003504d0000a05776869",
+        Cause::NoBinding,
+    ),
+    (
+        "no rule fits the edge, of a turned packet",
+        Way::Turned,
+        "4500001e000100004011f6a9c0000212c000021204d008d1000a05ab6869",
+        Cause::NoBasicRule,
+    ),
+    (
+        "the destination is no longer the edge's, of a turned packet",
+        Way::Turned,
+        "4500001e000100004011f6a9c0000212c000021204d008d1000a05ab6869",
+        Cause::WrongDestination,
+    ),
+    (
+        "no more fragments are held, of a turned packet",
+        Way::Turned,
+        "45000034000900024011f689c0000212c000021208090a0b0c0d0e0f101112131415161718191a1b1c1d1e1f2021222324252627",
+        Cause::FragmentsFull,
+    ),
+    (
+        "no binding has the port, of a turned packet",
+        Way::Turned,
+        "4500001e000100004011f6a9c0000212c000021204d008d1000a05ab6869",
+        Cause::NoBinding,
+    ),
 ];
 
 /// The number of a hexadecimal digit.
@@ -1614,20 +1623,61 @@ fn first_wrong(alloc: Global, rows: &[Row]) -> Result<Option<&'static str>, NoMe
     Ok(None)
 }
 
+/// Whether the hop of a row sends nothing, and drops one packet for this cause.
+fn drops_alone(alloc: Global, row: &Row, cause: Cause) -> Result<bool, NoMemory> {
+    let Some(hop) = hop_of(alloc, row)? else {
+        return Ok(false);
+    };
+    Ok(hop.outs.as_slice().is_empty() && hop.drops.as_slice() == [cause].as_slice())
+}
+
+/// The name of the first of these packets that isn't dropped alone.
+fn first_kept(alloc: Global, rows: &[Refusal]) -> Result<Option<&'static str>, NoMemory> {
+    for (name, way, packet, cause) in rows {
+        let row = Row {
+            name: *name,
+            way: *way,
+            packet: Plain(*packet),
+            told: Told::Refused(*cause),
+            ..FROM_LAN
+        };
+        if !drops_alone(alloc, &row, *cause)? {
+            return Ok(Some(*name));
+        }
+    }
+    Ok(None)
+}
+
 fn try_whole(alloc: Global) -> Result<Option<&'static str>, NoMemory> {
     first_wrong(alloc, &WHOLE)
 }
 
-fn try_long(alloc: Global) -> Result<Option<&'static str>, NoMemory> {
-    first_wrong(alloc, &LONG)
+fn try_long_out(alloc: Global) -> Result<Option<&'static str>, NoMemory> {
+    first_wrong(alloc, &LONG_OUT)
+}
+
+fn try_cut(alloc: Global) -> Result<Option<&'static str>, NoMemory> {
+    first_wrong(alloc, &CUT)
+}
+
+fn try_long_in(alloc: Global) -> Result<Option<&'static str>, NoMemory> {
+    first_wrong(alloc, &LONG_IN)
 }
 
 fn try_fragments_out(alloc: Global) -> Result<Option<&'static str>, NoMemory> {
     first_wrong(alloc, &FRAGMENTS_OUT)
 }
 
+fn try_freed_out(alloc: Global) -> Result<Option<&'static str>, NoMemory> {
+    first_wrong(alloc, &FREED_OUT)
+}
+
 fn try_fragments_in(alloc: Global) -> Result<Option<&'static str>, NoMemory> {
     first_wrong(alloc, &FRAGMENTS_IN)
+}
+
+fn try_freed_in(alloc: Global) -> Result<Option<&'static str>, NoMemory> {
+    first_wrong(alloc, &FREED_IN)
 }
 
 fn try_spent(alloc: Global) -> Result<Option<&'static str>, NoMemory> {
@@ -1638,6 +1688,10 @@ fn try_errors(alloc: Global) -> Result<Option<&'static str>, NoMemory> {
     first_wrong(alloc, &ERRORS)
 }
 
+fn try_pointers(alloc: Global) -> Result<Option<&'static str>, NoMemory> {
+    first_wrong(alloc, &POINTERS)
+}
+
 fn try_mtus(alloc: Global) -> Result<Option<&'static str>, NoMemory> {
     first_wrong(alloc, &MTUS)
 }
@@ -1646,12 +1700,28 @@ fn try_embedded(alloc: Global) -> Result<Option<&'static str>, NoMemory> {
     first_wrong(alloc, &EMBEDDED)
 }
 
+fn try_embedded_lengths(alloc: Global) -> Result<Option<&'static str>, NoMemory> {
+    first_wrong(alloc, &EMBEDDED_LENGTHS)
+}
+
 fn try_turned(alloc: Global) -> Result<Option<&'static str>, NoMemory> {
     first_wrong(alloc, &TURNED)
 }
 
+fn try_turned_fragments(alloc: Global) -> Result<Option<&'static str>, NoMemory> {
+    first_wrong(alloc, &TURNED_FRAGMENTS)
+}
+
+fn try_turned_errors(alloc: Global) -> Result<Option<&'static str>, NoMemory> {
+    first_wrong(alloc, &TURNED_ERRORS)
+}
+
 fn try_routes(alloc: Global) -> Result<Option<&'static str>, NoMemory> {
     first_wrong(alloc, &ROUTES)
+}
+
+fn try_segments(alloc: Global) -> Result<Option<&'static str>, NoMemory> {
+    first_wrong(alloc, &SEGMENTS)
 }
 
 fn try_least(alloc: Global) -> Result<Option<&'static str>, NoMemory> {
@@ -1659,7 +1729,7 @@ fn try_least(alloc: Global) -> Result<Option<&'static str>, NoMemory> {
 }
 
 fn try_refused(alloc: Global) -> Result<Option<&'static str>, NoMemory> {
-    first_wrong(alloc, &REFUSED)
+    first_kept(alloc, &REFUSED)
 }
 
 #[test]
@@ -1667,15 +1737,24 @@ fn each_hop_is_as_it_was_computed_elsewhere(rt: HostRuntime) -> Result<(), Fail>
     let alloc = rt.alloc();
     let wrong = [
         try_whole(alloc)?,
-        try_long(alloc)?,
+        try_long_out(alloc)?,
+        try_cut(alloc)?,
+        try_long_in(alloc)?,
         try_fragments_out(alloc)?,
+        try_freed_out(alloc)?,
         try_fragments_in(alloc)?,
+        try_freed_in(alloc)?,
         try_spent(alloc)?,
         try_errors(alloc)?,
+        try_pointers(alloc)?,
         try_mtus(alloc)?,
         try_embedded(alloc)?,
+        try_embedded_lengths(alloc)?,
         try_turned(alloc)?,
+        try_turned_fragments(alloc)?,
+        try_turned_errors(alloc)?,
         try_routes(alloc)?,
+        try_segments(alloc)?,
         try_least(alloc)?,
         try_refused(alloc)?,
     ];

@@ -1,4 +1,4 @@
-use Rattle.std.proofs.Common.{◌≡◌, ◌⊎◌, refl, subst, inl, inr, ap, ◌∙◌, List, ℕ}
+use Rattle.std.proofs.Common.{◌≡◌, ◌⊎◌, subst, inl, inr, ap, ◌∙◌, List, ℕ}
 use Rattle.std.specs.Prelude.{Bool, Result, Ok, Err, Option, None}
 use Rattle.octets.specs.declared.cause.Cause.{Cause}
 use Rattle.octets.specs.declared.cause.Fault.{Fault}
