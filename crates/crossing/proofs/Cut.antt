@@ -1,31 +1,28 @@
 -- The pieces of a packet that the first node cuts, there and back.
-use Rattle.std.proofs.Common.{◌≡◌, ◌≢◌, ◌⊎◌, ℕ, zero, suc, ◌+◌, ◌*◌, ◌-◌, ◌/◌, ◌%◌, ◌^◌, ◌<◌, ◌≤◌, Bool, true, false, ◌||◌, List, [], ◌∷◌, ◌++◌, length, take, drop, min, Option, Some, None, inl, inr, refl, sym, ap, ◌∙◌, subst, arith, length-drop}
+use Rattle.std.proofs.Common.{◌≡◌, ℕ, ◌+◌, ◌*◌, ◌-◌, ◌/◌, ◌%◌, ◌^◌, ◌<◌, ◌≤◌, Bool, ◌||◌, List, length, min, inl, inr, refl, sym, ap, ◌∙◌, subst, arith}
 use Rattle.std.specs.Prelude.{nat_lt}
 use Rattle.std.proofs.Math.Nat.{mul-le-mul_left}
-use Rattle.std.proofs.lemmas.Bool.{cases_lt, lt-ltb, le-ltb}
+use Rattle.std.proofs.lemmas.Bool.{cases_lt, le-ltb}
 use Rattle.octets.specs.Field.{part}
 use Rattle.octets.specs.declared.mtus.Mtus.{Mtus}
-use Rattle.octets.specs.declared.proto.Proto.{Proto}
-use Rattle.octets.specs.declared.proto.Proto.TheVariants.{Tcp, Udp, Icmp}
 use Rattle.ip4_packet.specs.declared.head.Head4.{Head4}
 use Rattle.ip4_packet.specs.Grammar.{payload_of4}
 use Rattle.ip4_packet.specs.Written.{written4}
 use Rattle.ip6_packet.specs.declared.head.Head6.{Head6}
-use Rattle.ip6_packet.specs.Fragment.{fragment_offset, more_fragments}
+use Rattle.ip6_packet.specs.Fragment.{more_fragments}
 use Rattle.ip6_packet.specs.Causes.{IsWrongFrag6}
 use Rattle.ip6_packet.specs.Grammar.{payload_of6, Is6}
-use Rattle.ip6_packet.specs.Written.{written6}
 use Rattle.ip6_packet.proofs.EmbeddedLemmas.{same_headers6, headers_of6}
 use Rattle.ip6_packet.proofs.WrittenLemmas.{written_is6}
 use Rattle.xlat46.specs.Head.{fragment_header, upper_protocol}
 use Rattle.xlat64.specs.Head.{protocol_of, translated as translated64}
-use Rattle.packet_faults.specs.Cut.{Cutting, cut_for, step_of, piece, piece_head, piece_payload, piece_frag, IsCuttable}
+use Rattle.packet_faults.specs.Cut.{Cutting, cut_for, step_of, piece, piece_head, piece_payload, IsCuttable}
 use Rattle.packet_faults.proofs.CutLemmas.{MayCut, room, give_again, found}
 use Rattle.packets.specs.declared.packet6.Packet6.{Packet6}
 use Rattle.packets.specs.Packet6.{IsPacket6}
 use Rattle.transit.proofs.Form.{low_offset}
-use Rattle.crossing.specs.Named.{Named, Sent, IsPayload, IsPart, more, piece_at}
-use Rattle.crossing.specs.Transfer.{Transfer, IsTaken, FitsHead, crossing_of, content_with}
+use Rattle.crossing.specs.Named.{Named, IsPayload, piece_at}
+use Rattle.crossing.specs.Transfer.{Transfer, IsTaken, crossing_of, content_with}
 use Rattle.crossing.proofs.Heads.{Reads, IsLaid, head_there, form, offset_there, more_there}
 use Rattle.crossing.proofs.Piece.{length-part, part_self}
 

@@ -20,19 +20,19 @@ use Rattle.icmp_messages.specs.declared.icmp4.Icmp4.{Icmp4}
 use Rattle.icmp_messages.specs.declared.icmp6.Icmp6.{Icmp6}
 use Rattle.icmp_messages.specs.declared.inner4.Inner4.{Inner4}
 use Rattle.icmp_messages.specs.declared.inner6.Inner6.{Inner6}
-use Rattle.icmp_messages.specs.Inner.{IsInner4, IsInner6, IsCarried4, IsCarried6}
+use Rattle.icmp_messages.specs.Inner.{IsInner6, IsCarried4, IsCarried6}
 use Rattle.icmp_messages.specs.Message.{message4, message6}
 use Rattle.xlat46.specs.Head.{is_fragment, upper_protocol}
-use Rattle.xlat64.specs.Head.{protocol_of, translated as translated64}
+use Rattle.xlat64.specs.Head.{protocol_of}
 use Rattle.icmp_xlat.specs.declared.ends.Ends.{Ends}
 use Rattle.icmp_xlat.specs.declared.table.Row.{Row}
 use Rattle.icmp_xlat.specs.declared.table.Rest.{Rest}
 use Rattle.icmp_xlat.specs.declared.table.Rest.TheVariants.{Query, Zero, Protocol, Mtu, Pointer}
-use Rattle.icmp_xlat.specs.Table.{table46, table64, row_of, pointers46, pointers64, pointer_of}
-use Rattle.icmp_xlat.specs.Mtu.{mtu46, mtu64}
+use Rattle.icmp_xlat.specs.Table.{table46, table64, row_of, pointers64, pointer_of}
+use Rattle.icmp_xlat.specs.Mtu.{mtu46}
 use Rattle.icmp_xlat.specs.Icmp46.{rest46, error46, embedded46, with_message46}
 use Rattle.icmp_xlat.specs.Icmp64.{rest64, error64, embedded64, with_message64}
-use Rattle.icmp_xlat.specs.Inner.{inner46, inner64, inner_head46, inner_head64, inner_payload, change46, change64}
+use Rattle.icmp_xlat.specs.Inner.{inner46, inner64, inner_head64, inner_payload, change46}
 use Rattle.packets.specs.declared.packet4.Content4.{Content4}
 use Rattle.packets.specs.declared.packet4.Content4.TheVariants.{Error as Error4}
 use Rattle.packets.specs.declared.packet6.Content6.{Content6}
@@ -41,13 +41,13 @@ use Rattle.packets.specs.declared.packet6.Packet6.{Packet6}
 use Rattle.packets.specs.Packet4.{IsContent4, IsErrorOf4}
 use Rattle.packets.specs.Packet6.{IsContent6, IsPacket6}
 use Rattle.packets.proofs.Spared6.{icmp_alone}
-use Rattle.transit.specs.Passage46.{translation46, error_packet46}
-use Rattle.transit.specs.Passage64.{translation64, error_packet64}
+use Rattle.transit.specs.Passage46.{translation46}
+use Rattle.transit.specs.Passage64.{translation64}
 use Rattle.transit.proofs.Room.{length-written4}
-use Rattle.crossing.specs.Named.{IsPayload, IsMessage, IsErrorAfter, rest_after, inner_after, inner_head, inner_room, inner_total, inner_change, uncut}
+use Rattle.crossing.specs.Named.{IsPayload, IsMessage, IsErrorAfter, rest_after, inner_after, inner_head, inner_room, inner_change, uncut}
 use Rattle.crossing.specs.Transfer.{Transfer, FitsHead, FitsContent, IsTaken, IsThere, IsBack, ComesOf, crossing_of, content_with, inner_with}
 use Rattle.crossing.proofs.Embedded.{FitsInner, ReadsInner, reads_inner, one_proto}
-use Rattle.crossing.proofs.Heads.{id_twice, df_twice, payload_len_is, some_same, frag_of, offset_there, more_there, head_there, head_back, IsLaid, laid_inside, between, named_uncut}
+use Rattle.crossing.proofs.Heads.{id_twice, df_twice, some_same, frag_of, offset_there, more_there, head_there, head_back, IsLaid, laid_inside, between, named_uncut}
 use Rattle.crossing.proofs.Inner.{inner_there, payload_back, inner_ports, ports_read}
 use Rattle.crossing.proofs.Piece.{length-part}
 use Rattle.crossing.proofs.Query.{IsRead, is_read, found_by, length-message4, length-message6, upper_58}

@@ -1,23 +1,18 @@
 -- Later fragments of TCP and UDP, there and back.
-use Rattle.std.proofs.Common.{◌≡◌, ◌≢◌, ℕ, ◌+◌, ◌-◌, ◌%◌, ◌^◌, ◌<◌, ◌≤◌, Bool, List, length, Option, Some, None, refl, sym, ap, ◌∙◌, subst, arith}
+use Rattle.std.proofs.Common.{◌≡◌, ℕ, ◌-◌, ◌%◌, ◌^◌, Bool, List, length, Some, refl, sym, ap, ◌∙◌, subst, arith}
 use Rattle.octets.specs.declared.proto.Proto.{Proto}
 use Rattle.ip4_packet.specs.Grammar.{payload_of4}
 use Rattle.ip4_packet.specs.Written.{written4}
-use Rattle.ip6_packet.specs.declared.head.Head6.{Head6}
-use Rattle.ip6_packet.specs.Grammar.{payload_of6}
 use Rattle.ip6_packet.specs.Written.{written6}
-use Rattle.xlat46.specs.Head.{translated as translated46}
-use Rattle.xlat64.specs.Head.{translated as translated64}
 use Rattle.packets.specs.declared.packet4.Content4.{Content4}
 use Rattle.packets.specs.declared.packet4.Content4.TheVariants.{Later as Later4}
 use Rattle.packets.specs.declared.packet6.Content6.{Content6}
 use Rattle.packets.specs.declared.packet6.Content6.TheVariants.{Later as Later6}
 use Rattle.packets.specs.declared.packet6.Packet6.{Packet6}
 use Rattle.packets.specs.Packet4.{IsContent4, IsLater4}
-use Rattle.packets.specs.Packet6.{IsContent6, IsPacket6}
+use Rattle.packets.specs.Packet6.{IsPacket6}
 use Rattle.transit.specs.Passage46.{translation46}
 use Rattle.transit.specs.Passage64.{translation64}
-use Rattle.transit.proofs.Form.{low_offset}
 use Rattle.crossing.specs.Named.{IsPayload, uncut}
 use Rattle.crossing.specs.Transfer.{Transfer, IsTaken, IsThere, IsBack, ComesOf, crossing_of, content_with}
 use Rattle.crossing.proofs.Heads.{payload_len_is, some_same, offset_there, head_there, head_back, IsLaid, laid_inside, between, named_uncut}

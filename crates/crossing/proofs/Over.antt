@@ -1,6 +1,5 @@
 -- A packet that was sent over the access network, whole or as one of the pieces of one.
-use Rattle.std.proofs.Common.{◌≡◌, ◌≢◌, ◌⊎◌, ℕ, suc, ◌+◌, ◌*◌, ◌/◌, ◌<◌, ◌≤◌, Bool, false, List, length, Option, Some, None, inl, inr, refl, sym, ap, ◌∙◌, subst, arith}
-use Rattle.std.specs.Prelude.{slice_get}
+use Rattle.std.proofs.Common.{◌≡◌, ◌⊎◌, ℕ, ◌+◌, ◌*◌, ◌/◌, ◌<◌, ◌≤◌, Bool, false, List, length, Option, Some, None, inl, inr, refl, sym, ap, ◌∙◌, subst, arith}
 use Rattle.std.proofs.lemmas.Bool.{cases_lt, false≢true}
 use Rattle.octets.specs.Field.{part}
 use Rattle.octets.specs.declared.parcel.Parcel.{Parcel}
@@ -10,10 +9,9 @@ use Rattle.ip6_packet.specs.declared.head.Head6.{Head6}
 use Rattle.ip6_packet.specs.Fragment.{fragment_offset}
 use Rattle.octets.specs.declared.address.Addr6.{Addr6}
 use Rattle.icmp_xlat.specs.declared.ends.Ends.{Ends}
-use Rattle.l4_headers.specs.declared.ports.Ports.{Ports}
 use Rattle.l4_headers.specs.declared.ports.L4.{L4}
 use Rattle.l4_headers.specs.Transport.{header_octets, l4_of}
-use Rattle.packet_faults.specs.Cut.{AreCut, IsCuttable, cut_for, piece, piece_head, piece_payload, step_of}
+use Rattle.packet_faults.specs.Cut.{AreCut, cut_for, piece, piece_head, piece_payload, step_of}
 use Rattle.packets.specs.declared.packet4.Content4.{Content4}
 use Rattle.packets.specs.declared.packet4.Content4.TheVariants.{Segment as Segment4, Later as Later4, Query as Query4, Error as Error4}
 use Rattle.packets.specs.declared.packet6.Content6.{Content6}
@@ -22,14 +20,14 @@ use Rattle.packets.specs.declared.packet6.Packet6.{Packet6}
 use Rattle.packets.specs.Packet6.{IsContent6, IsPacket6}
 use Rattle.transit.specs.Passage46.{is_message4}
 use Rattle.crossing.specs.Named.{Portion, uncut, piece_at}
-use Rattle.crossing.specs.Transfer.{Transfer, FitsPorts, IsTaken, IsThere, IsPieceThere, IsSentThere, IsBack, ComesOf, crossing_of}
-use Rattle.crossing.proofs.Heads.{Reads, IsLaid, offset_there, head_there}
+use Rattle.crossing.specs.Transfer.{Transfer, IsTaken, IsPieceThere, IsSentThere, IsBack, ComesOf, crossing_of}
+use Rattle.crossing.proofs.Heads.{Reads, IsLaid, offset_there}
 use Rattle.crossing.proofs.Contents.{one_segment, one_later}
-use Rattle.crossing.proofs.Segment.{ReadsFlow, again_of, payload_there, length_there, segment_laid}
+use Rattle.crossing.proofs.Segment.{ReadsFlow, again_of, payload_there, segment_laid}
 use Rattle.crossing.proofs.Later.{later_laid}
 use Rattle.crossing.proofs.Piece.{l4_of-front}
 use Rattle.crossing.proofs.Cut.{cut_of, step_least, this_cut, piece_reads}
-use Rattle.crossing.proofs.Pieces.{ComesOfPiece, IsAt, place_of, IsCutThere, cut_there}
+use Rattle.crossing.proofs.Pieces.{place_of, cut_there}
 use Rattle.crossing.proofs.Uncut.{crosses, ReadsEnds, reads_ends, FlowIs, reads_flow}
 
 -- a piece that was found among them is that of its number

@@ -1,5 +1,5 @@
 -- Each piece of a packet that the first node cuts crosses with the named header changes.
-use Rattle.std.proofs.Common.{◌≡◌, ◌≢◌, ◌⊎◌, ℕ, zero, suc, ◌+◌, ◌*◌, ◌-◌, ◌/◌, ◌%◌, ◌^◌, ◌<◌, ◌≤◌, Bool, false, List, length, Option, Some, None, inl, inr, refl, sym, ap, ◌∙◌, subst, arith}
+use Rattle.std.proofs.Common.{◌≡◌, ◌≢◌, ◌⊎◌, ℕ, zero, suc, ◌+◌, ◌*◌, ◌-◌, ◌/◌, ◌%◌, ◌^◌, ◌<◌, ◌≤◌, Bool, false, List, length, Some, inl, inr, refl, sym, ap, ◌∙◌, subst, arith}
 use Rattle.std.proofs.Math.Nat.{mul-le-mul_right, mul-mod_left, mul_assoc}
 use Rattle.std.proofs.lemmas.Bool.{false≢true}
 use Rattle.octets.specs.Field.{part}
@@ -8,9 +8,8 @@ use Rattle.octets.specs.declared.proto.Proto.TheVariants.{Tcp, Udp, Icmp}
 use Rattle.ip4_packet.specs.Written.{written4}
 use Rattle.ip6_packet.specs.declared.head.Head6.{Head6}
 use Rattle.ip6_packet.specs.Fragment.{fragment_offset}
-use Rattle.ip6_packet.specs.Grammar.{payload_of6}
 use Rattle.l4_headers.specs.declared.ports.L4.{L4}
-use Rattle.l4_headers.specs.Transport.{header_octets, l4_of, with_l4}
+use Rattle.l4_headers.specs.Transport.{header_octets, with_l4}
 use Rattle.l4_headers.specs.Readdressed.{readdressed_sum}
 use Rattle.xlat46.specs.Whole.{ArePorts}
 use Rattle.xlat64.specs.Whole.{Parts6, addresses_before, addresses_after, payload64, packet64}
@@ -18,9 +17,8 @@ use Rattle.packet_faults.specs.Cut.{step_of, piece, piece_head, piece_payload, I
 use Rattle.packets.specs.declared.packet4.Content4.{Content4}
 use Rattle.packets.specs.declared.packet4.Content4.TheVariants.{Segment as Segment4, Later as Later4, Query as Query4, Error as Error4}
 use Rattle.packets.specs.declared.packet6.Content6.{Content6}
-use Rattle.packets.specs.declared.packet6.Content6.TheVariants.{Segment as Segment6, Later as Later6}
 use Rattle.packets.specs.declared.packet6.Packet6.{Packet6}
-use Rattle.packets.specs.Packet6.{IsContent6, IsPacket6}
+use Rattle.packets.specs.Packet6.{IsContent6}
 use Rattle.transit.specs.Passage46.{is_message4}
 use Rattle.transit.specs.Passage64.{translation64}
 use Rattle.crossing.specs.Named.{Named, Sent, IsPayload, piece_at}
@@ -30,7 +28,7 @@ use Rattle.crossing.proofs.Contents.{one_segment, one_later}
 use Rattle.crossing.proofs.Segment.{payload_there, payload_back, sum_back, length_there, length_back, segment_laid, segment_is}
 use Rattle.crossing.proofs.Later.{later_laid}
 use Rattle.crossing.proofs.Piece.{l4_of-front, with_l4-front, with_l4-behind}
-use Rattle.crossing.proofs.Cut.{cut_of, step_least, piece_reads, piece_back, IsPieceOf, named_piece}
+use Rattle.crossing.proofs.Cut.{cut_of, step_least, piece_reads, piece_back, named_piece}
 
 -- what comes of one piece, where all of the payload is this one
 pub record ComesOfPiece (t : Transfer) (whole : List ℕ) (at : ℕ) (four : List ℕ) : Type 0 where

@@ -1,13 +1,10 @@
 -- Echo requests and replies, there and back.
-use Rattle.std.proofs.Common.{◌≡◌, ◌≢◌, ◌⊎◌, ℕ, suc, ◌+◌, ◌*◌, ◌-◌, ◌/◌, ◌%◌, ◌^◌, ◌<◌, ◌≤◌, Bool, List, ◌∷◌, ◌++◌, length, drop, Option, Some, None, inl, inr, refl, sym, ap, ◌∙◌, subst, arith, length-append}
-use Rattle.std.specs.Int.{bytes_high_first}
+use Rattle.std.proofs.Common.{◌≡◌, ℕ, ◌+◌, ◌*◌, ◌-◌, ◌/◌, ◌%◌, ◌^◌, ◌<◌, ◌≤◌, Bool, List, ◌++◌, length, Some, refl, sym, ap, ◌∙◌, subst, arith}
 use Rattle.std.proofs.lemmas.List.{length-drop}
-use Rattle.octets.specs.Field.{octet, quad, in_word, in_quad}
+use Rattle.octets.specs.Field.{quad}
 use Rattle.octets.proofs.Parts.{number_back}
 use Rattle.inet_sum.specs.Sum.{words, check_sum}
-use Rattle.octets.specs.Protocol.{proto6}
 use Rattle.octets.specs.declared.address.Addr6.{Addr6}
-use Rattle.octets.specs.declared.proto.Proto.{Proto}
 use Rattle.octets.specs.declared.proto.Proto.TheVariants.{Icmp}
 use Rattle.ip4_packet.specs.Grammar.{payload_of4}
 use Rattle.ip4_packet.specs.Written.{written4}
@@ -16,7 +13,7 @@ use Rattle.ip6_packet.specs.Written.{written6, IsUpper}
 use Rattle.l4_headers.specs.declared.ports.Ports.{Ports}
 use Rattle.icmp_messages.specs.declared.icmp4.Icmp4.{Icmp4}
 use Rattle.icmp_messages.specs.declared.icmp6.Icmp6.{Icmp6}
-use Rattle.icmp_messages.specs.Message.{IsIcmp4, IsIcmp6, front, with_sum4, with_sum6, covered6, message4, message6}
+use Rattle.icmp_messages.specs.Message.{IsIcmp6, front, with_sum4, with_sum6, covered6, message4, message6}
 use Rattle.xlat46.specs.Head.{upper_protocol}
 use Rattle.xlat64.specs.Head.{protocol_of}
 use Rattle.icmp_xlat.specs.declared.table.Row.{Row}

@@ -10,9 +10,6 @@ use Rattle.packets.specs.Packet6.{IsPacket6}
 use Rattle.packets.specs.declared.packet4.Content4.{Content4}
 use Rattle.packets.specs.declared.packet4.Content4.TheVariants.{Segment, Later, Query, Error}
 use Rattle.packets.specs.declared.packet6.Packet6.{Packet6}
-use Rattle.icmp_messages.specs.declared.icmp4.Icmp4.{Icmp4}
-use Rattle.icmp_messages.specs.declared.inner4.Inner4.{Inner4}
-use Rattle.icmp_xlat.specs.declared.table.Row.{Row}
 use Rattle.crossing.specs.Named.{uncut}
 use Rattle.crossing.specs.Transfer.{Transfer, IsTaken, IsThere, IsBack, ComesOf, crossing_of}
 use Rattle.crossing.proofs.Heads.{IsLaid, laid_reads}

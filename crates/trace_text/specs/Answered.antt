@@ -1,6 +1,6 @@
 -- What the NAPT44 machine of an edge answered to a packet that crosses: for one that goes out, and for one that comes in from the
 -- access network. A fragment that was freed has the answer to the first fragment that freed it, which had the same addresses.
-use Rattle.std.specs.Prelude.{◌≡◌, ℕ, ◌<◌, ◌^◌, Bool, List}
+use Rattle.std.specs.Prelude.{◌≡◌, ℕ, ◌<◌, ◌^◌, Bool}
 use Rattle.std.specs.List.{All}
 use Rattle.octets.specs.declared.address.Addr4.{Addr4}
 use Rattle.octets.specs.declared.address.Addr6.{Addr6}
