@@ -45,7 +45,7 @@ use Rattle.transit.specs.Passage46.{translation46}
 use Rattle.transit.specs.Passage64.{translation64}
 use Rattle.transit.proofs.Room.{length-written4}
 use Rattle.crossing.specs.Named.{IsPayload, IsMessage, IsErrorAfter, rest_after, inner_after, inner_head, inner_room, inner_change, uncut}
-use Rattle.crossing.specs.Transfer.{Transfer, FitsHead, FitsContent, IsTaken, IsThere, IsBack, ComesOf, crossing_of, content_with, inner_with}
+use Rattle.crossing.specs.Transfer.{Transfer, FitsHead, FitsContent, IsTakenAs, IsThere, IsBack, ComesOf, crossing_of, content_with, inner_with}
 use Rattle.crossing.proofs.Embedded.{FitsInner, ReadsInner, reads_inner, one_proto}
 use Rattle.crossing.proofs.Heads.{id_twice, df_twice, some_same, frag_of, offset_there, more_there, head_there, head_back, IsLaid, laid_inside, between, named_uncut}
 use Rattle.crossing.proofs.Inner.{inner_there, payload_back, inner_ports, ports_read}
@@ -130,7 +130,7 @@ rest_there mtus h m row inner ends six None e = absurd (none_sent six e)
     none_sent xs is = cc
 rest_there mtus h m row inner ends six (Some rest) e = (rest, refl, some_same (with_message46 h (error46 row rest inner ends) ends) six e)
 
-pub error_laid : (t : Transfer) (m : Icmp4) (row : Row) (inner : Inner4) (octets six : List ℕ) → t.taken.content ≡ Error4 m row inner → IsTaken t octets → IsThere t six → IsErrorLaid t m row inner six
+pub error_laid : (t : Transfer) (m : Icmp4) (row : Row) (inner : Inner4) (octets six : List ℕ) → t.taken.content ≡ Error4 m row inner → IsTakenAs t octets → IsThere t six → IsErrorLaid t m row inner six
 error_laid t m row inner octets six e taken there =
     let h = t.taken.head in
     let has : IsErrorOf4 h (payload_of4 h octets) m row inner = subst (λ (c : Content4). IsContent4 h (payload_of4 h octets) c) e taken.is.content in
@@ -176,7 +176,7 @@ zero_rest mtus total rest found kind zero is =
     let same : 0 ≡ found = same_number 0 found (rw zero at is) in
     omega arith
 
-pub sees_error : (t : Transfer) (m : Icmp4) (row : Row) (inner : Inner4) (octets six : List ℕ) (at_relay : Bool) (q : Packet6) → IsTaken t octets → (laid : IsErrorLaid t m row inner six) → IsPacket6 at_relay q six
+pub sees_error : (t : Transfer) (m : Icmp4) (row : Row) (inner : Inner4) (octets six : List ℕ) (at_relay : Bool) (q : Packet6) → IsTakenAs t octets → (laid : IsErrorLaid t m row inner six) → IsPacket6 at_relay q six
     → SeesError t row inner laid.rest q.content
 sees_error t m row inner octets six at_relay q taken laid is =
     let m6 = error46 row laid.rest inner t.six in
@@ -251,7 +251,7 @@ rest_back mtus h n row inner ends id four None e = absurd (none_sent four e)
 rest_back mtus h n row inner ends id four (Some rest) e = (rest, refl, some_same (with_message64 h (error64 row rest inner ends) ends id) four e)
 
 pub error_crosses : (t : Transfer) (m : Icmp4) (row : Row) (inner : Inner4) (octets six four : List ℕ) (at_relay : Bool) (q : Packet6) → t.taken.content ≡ Error4 m row inner
-    → IsTaken t octets → IsThere t six → IsBack t at_relay q six four → ComesOf (crossing_of t) uncut four
+    → IsTakenAs t octets → IsThere t six → IsBack t at_relay q six four → ComesOf (crossing_of t) uncut four
 error_crosses t m row inner octets six four at_relay q e taken there back =
     let id = t.number % 2 ^ 16 in
     let laid = error_laid t m row inner octets six e taken there in
@@ -302,7 +302,7 @@ pub record ReadsError (inner : Inner4) (six : Ends Addr6) (q : Content6) : Type 
   pub far : about.head.dst ≡ six.inner_dst
 
 pub error_flow : (t : Transfer) (m : Icmp4) (row : Row) (inner : Inner4) (octets six : List ℕ) (at_relay : Bool) (q : Packet6) → t.taken.content ≡ Error4 m row inner
-    → IsTaken t octets → IsThere t six → IsPacket6 at_relay q six → ReadsError inner t.six q.content
+    → IsTakenAs t octets → IsThere t six → IsPacket6 at_relay q six → ReadsError inner t.six q.content
 error_flow t m row inner octets six at_relay q e taken there is =
     let laid = error_laid t m row inner octets six e taken there in
     let sees = sees_error t m row inner octets six at_relay q taken laid is in

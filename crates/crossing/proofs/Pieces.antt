@@ -22,7 +22,7 @@ use Rattle.packets.specs.Packet6.{IsContent6}
 use Rattle.transit.specs.Passage46.{is_message4}
 use Rattle.transit.specs.Passage64.{translation64}
 use Rattle.crossing.specs.Named.{Named, Sent, IsPayload, piece_at}
-use Rattle.crossing.specs.Transfer.{Transfer, FitsPorts, IsTaken, IsThere, IsBack, crossing_of, content_with}
+use Rattle.crossing.specs.Transfer.{Transfer, FitsPorts, IsTakenAs, IsThere, IsBack, crossing_of, content_with}
 use Rattle.crossing.proofs.Heads.{some_same, offset_there, head_there, Reads, IsLaid}
 use Rattle.crossing.proofs.Contents.{one_segment, one_later}
 use Rattle.crossing.proofs.Segment.{payload_there, payload_back, sum_back, length_there, length_back, segment_laid, segment_is}
@@ -88,7 +88,7 @@ pub record IsAt (t : Transfer) (over : List ℕ) (at : ℕ) : Type 0 where
   pub units : at % 8 ≡ 0
   pub apart : (at ≡ 0) ⊎ (20 ≤ at)
 
-segment_at : (t : Transfer) (proto : Proto) (l4 : L4) (octets six four : List ℕ) (at : ℕ) (at_relay : Bool) (q : Packet6) → t.taken.content ≡ Segment4 proto l4 → IsTaken t octets → t.taken.head.id < 65536 → IsThere t six
+segment_at : (t : Transfer) (proto : Proto) (l4 : L4) (octets six four : List ℕ) (at : ℕ) (at_relay : Bool) (q : Packet6) → t.taken.content ≡ Segment4 proto l4 → IsTakenAs t octets → t.taken.head.id < 65536 → IsThere t six
     → IsAt t (payload_there t proto) at → Reads q (piece_head (cut_of t (payload_there t proto)) at) (piece_payload (cut_of t (payload_there t proto)) at) (piece (cut_of t (payload_there t proto)) at).bytes
     → IsBack t at_relay q (piece (cut_of t (payload_there t proto)) at).bytes four → ArePorts t.four.ports → ComesOfPiece t (payload_back t proto) at four
 segment_at t proto l4 octets six four at at_relay q e taken small there place reads back ports =
@@ -128,7 +128,7 @@ segment_at t proto l4 octets six four at at_relay q e taken small there place re
           }
     ]
 
-later_at : (t : Transfer) (proto : Proto) (octets six four : List ℕ) (at : ℕ) (at_relay : Bool) (q : Packet6) → t.taken.content ≡ Later4 proto → IsTaken t octets → t.taken.head.id < 65536 → IsThere t six
+later_at : (t : Transfer) (proto : Proto) (octets six four : List ℕ) (at : ℕ) (at_relay : Bool) (q : Packet6) → t.taken.content ≡ Later4 proto → IsTakenAs t octets → t.taken.head.id < 65536 → IsThere t six
     → IsAt t t.payload at → Reads q (piece_head (cut_of t t.payload) at) (piece_payload (cut_of t t.payload) at) (piece (cut_of t t.payload) at).bytes
     → IsBack t at_relay q (piece (cut_of t t.payload) at).bytes four → ComesOfPiece t t.payload at four
 later_at t proto octets six four at at_relay q e taken small there place reads back =
@@ -172,7 +172,7 @@ pub record IsCutThere (t : Transfer) (six over whole : List ℕ) : Type 0 where
   pub each : (h : Head6) (payload four : List ℕ) (k : ℕ) (at_relay : Bool) (q : Packet6) → IsCuttable h payload six
       → k * step_of t.mtus.mtu6 < length over → IsBack t at_relay q (piece (cut_of t over) (k * step_of t.mtus.mtu6)).bytes four → ComesOfPiece t whole (k * step_of t.mtus.mtu6) four
 
-pub cut_there : (t : Transfer) (octets six : List ℕ) → is_message4 t.taken.content ≡ false → IsTaken t octets → t.taken.head.id < 65536 → IsThere t six → FitsPorts t.taken.content t.four.ports
+pub cut_there : (t : Transfer) (octets six : List ℕ) → is_message4 t.taken.content ≡ false → IsTakenAs t octets → t.taken.head.id < 65536 → IsThere t six → FitsPorts t.taken.content t.four.ports
     → (over : List ℕ) × (whole : List ℕ) × IsCutThere t six over whole
 cut_there t octets six flows taken small there ports = by t.taken.content refl flows ports
   where

@@ -73,7 +73,7 @@ FitsContent (Error m row inner) = FitsHead inner.head
 FitsContent _ = Unit {0}
 
 -- the octets are the packet that was taken, and numbers fit their fields
-pub record IsTaken (t : Transfer) (octets : List ℕ) : Type 0 where
+pub record IsTakenAs (t : Transfer) (octets : List ℕ) : Type 0 where
   pub is : IsPacket4 t.taken octets
   pub payload : t.payload ≡ payload_of4 t.taken.head octets
   pub fits : FitsHead t.taken.head

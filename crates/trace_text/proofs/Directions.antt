@@ -40,11 +40,11 @@ use Rattle.relay_node.specs.FromAccess.{ends64}
 use Rattle.relay_node.specs.FromIpv4.{ends46, far_end}
 use Rattle.crossing.specs.Nat44.{sent_from, received_at, content_from, content_to}
 use Rattle.crossing.specs.Named.{Portion, uncut, piece_at}
-use Rattle.crossing.specs.Transfer.{Transfer, IsTaken, IsThere, IsSentThere, IsBack, ComesOf, FitsEnds, packet_with, content_with}
+use Rattle.crossing.specs.Transfer.{Transfer, IsTakenAs, IsThere, IsSentThere, IsBack, ComesOf, FitsEnds, packet_with, content_with}
 use Rattle.crossing.proofs.Error.{ReadsError}
 use Rattle.crossing.proofs.Over.{Seen, seen, over_crosses}
 use Rattle.crossing.proofs.Uncut.{FlowIs}
-use Rattle.trace_text.specs.Answered.{Step, AreRulesOf, AnsweredOut, AnsweredIn, rules_at}
+use Rattle.trace_text.specs.Answered.{Step, AreRulesOf, AnsweredOut, AnsweredIn, rules_of_step}
 use Rattle.trace_text.specs.Behind.{ipv4_behind}
 use Rattle.trace_text.specs.Hops.{IsTaken4, FitsAnswer, EdgeSends, EdgeReceives, IsEmitted}
 use Rattle.trace_text.specs.Crossings.{Passed, Setting, id_of, ToRelay, FromRelay, EdgeAnswer, EdgeToEdge, IsOneStep, crossing_with}
@@ -83,15 +83,15 @@ record HoldsOut (dmr : Dmr) (from dst : Addr4) (src6 dst6 : Addr6) : Type 0 wher
   source : ipv4_behind dmr src6.0 ≡ Some from.0
   destination : ipv4_behind dmr dst6.0 ≡ Some dst.0
 
-holds_out : (dmr : Dmr) (step : Step) (dst : Addr4) (from : Addr4) (port : ℕ) (src6 dst6 : Addr6) (freed : List Parcel) → AreRulesOf dmr (rules_at step) → dst.0 < 2 ^ 32
+holds_out : (dmr : Dmr) (step : Step) (dst : Addr4) (from : Addr4) (port : ℕ) (src6 dst6 : Addr6) (freed : List Parcel) → AreRulesOf dmr (rules_of_step step) → dst.0 < 2 ^ 32
     → AnsweredOut step dst (Out from port src6 dst6 freed) → HoldsOut dmr from dst src6 dst6
 holds_out dmr step dst from port src6 dst6 freed rules fits answered =
     let way = way_out step.prefix step.state step.moment answered.fault answered.proto answered.near (record { addr = dst; port = answered.port }) answered.flags answered.part freed from port src6 dst6 answered.is in
     let h = way.0 in
-    let own = holder_holds (rules_at step).rules dmr step.prefix h rules.fit rules.valid.apart_dmr way.1 in
+    let own = holder_holds (rules_of_step step).rules dmr step.prefix h rules.fit rules.valid.apart_dmr way.1 in
     record {
       source = ap (λ (a : Addr6). ipv4_behind dmr a.0) way.2.src_is ∙ own.0 ∙ ap (λ (a : Addr4). some_number a.0) (sym way.2.from_is);
-      destination = ap (λ (a : Addr6). ipv4_behind dmr a.0) way.2.dst_is ∙ reached_holds (rules_at step) dmr dst.0 way.2.port rules fits;
+      destination = ap (λ (a : Addr6). ipv4_behind dmr a.0) way.2.dst_is ∙ reached_holds (rules_of_step step) dmr dst.0 way.2.port rules fits;
     }
   where
     some_number : ℕ → Option ℕ
@@ -118,7 +118,7 @@ transfer setting c six four = record {
   number = setting.number;
 }
 
-taken_as : (setting : Setting) (c : Passed) (six : Ends Addr6) (four : Ends Addr4) → IsTaken4 c.taken c.octets → FitsEnds six → IsTaken (transfer setting c six four) c.octets
+taken_as : (setting : Setting) (c : Passed) (six : Ends Addr6) (four : Ends Addr4) → IsTaken4 c.taken c.octets → FitsEnds six → IsTakenAs (transfer setting c six four) c.octets
 taken_as setting c six four taken fits = record { is = taken.is; payload = refl; fits = head_fits c.taken.head c.octets taken.are taken.is.is.fields; inner = content_fits c.taken.content c.taken.head.dst (within c.taken c.octets taken); six = fits }
 
 back_with : (mtus domain_mtus : Mtus) (id domain_id : ℕ) (q : Packet6) (six four : List ℕ) (ends : Ends Addr4) → mtus ≡ domain_mtus → id ≡ domain_id
@@ -297,18 +297,18 @@ to_relay setting step (Refused cause freed) relay c is = absurd is.sent
 -- ---- to an edge
 
 -- the address that the edge finds behind the source
-from_told : (setting : Setting) (step : Step) (q : Packet6) (to : Addr4) (port : ℕ) (from peer : Addr4) (freed : List Parcel) → AreRulesOf setting.dmr (rules_at step)
+from_told : (setting : Setting) (step : Step) (q : Packet6) (to : Addr4) (port : ℕ) (from peer : Addr4) (freed : List Parcel) → AreRulesOf setting.dmr (rules_of_step step)
     → AnsweredIn step q.head.src (near_addr6 q q.content) (In to port from peer freed) → ipv4_behind setting.dmr q.head.src.0 ≡ Some from.0
 from_told setting step q to port from peer freed rules answered =
     let way = way_in step.prefix step.state step.moment answered.fault answered.proto answered.port answered.dst q.head.src (near_addr6 q q.content) answered.far_port answered.flags answered.part freed to port from peer answered.is in
-    behind_holds (rules_at step) setting.dmr q.head.src.0 way.port from rules.fixed way.from_is
+    behind_holds (rules_of_step step) setting.dmr q.head.src.0 way.port from rules.fixed way.from_is
 
 -- and behind the remote address of its flow
-peer_told : (setting : Setting) (step : Step) (q : Packet6) (to : Addr4) (port : ℕ) (from peer : Addr4) (freed : List Parcel) → AreRulesOf setting.dmr (rules_at step)
+peer_told : (setting : Setting) (step : Step) (q : Packet6) (to : Addr4) (port : ℕ) (from peer : Addr4) (freed : List Parcel) → AreRulesOf setting.dmr (rules_of_step step)
     → AnsweredIn step q.head.src (near_addr6 q q.content) (In to port from peer freed) → ipv4_behind setting.dmr (near_addr6 q q.content).0 ≡ Some peer.0
 peer_told setting step q to port from peer freed rules answered =
     let way = way_in step.prefix step.state step.moment answered.fault answered.proto answered.port answered.dst q.head.src (near_addr6 q q.content) answered.far_port answered.flags answered.part freed to port from peer answered.is in
-    behind_holds (rules_at step) setting.dmr (near_addr6 q q.content).0 way.port peer rules.fixed way.far_is
+    behind_holds (rules_of_step step) setting.dmr (near_addr6 q q.content).0 way.port peer rules.fixed way.far_is
 
 passage_with : (mtus domain_mtus : Mtus) (p : Packet4) (payload : List ℕ) (ends : Ends Addr6) (passage : Passage) → mtus ≡ domain_mtus → IsPassage46 mtus p payload ends passage → IsPassage46 domain_mtus p payload ends passage
 passage_with mtus domain_mtus p payload ends passage same is = subst (λ (m : Mtus). IsPassage46 m p payload ends passage) same is

@@ -24,8 +24,8 @@ pub record Step : Type 0 where
   pub moment : Moment
 
 -- the rules by which it answers
-abbrev pub rules_at : Step → Generation
-rules_at step = (renewed step.prefix step.moment.seen step.state).book
+abbrev pub rules_of_step : Step → Generation
+rules_of_step step = (renewed step.prefix step.moment.seen step.state).book
 
 -- rules that a book may have, beside this default mapping rule, which never changes
 pub record AreRulesOf (dmr : Dmr) (book : Generation) : Type 0 where

@@ -16,7 +16,7 @@ use Rattle.relay_node.specs.Relay.{Relay}
 use Rattle.crossing.specs.Nat44.{nat44_by}
 use Rattle.crossing.specs.Named.{Crossing, Portion}
 use Rattle.crossing.specs.Transfer.{ComesOf}
-use Rattle.trace_text.specs.Answered.{Step, AreRulesOf, AnsweredOut, AnsweredIn, rules_at}
+use Rattle.trace_text.specs.Answered.{Step, AreRulesOf, AnsweredOut, AnsweredIn, rules_of_step}
 use Rattle.trace_text.specs.Hops.{IsTaken4, FitsAnswer, EdgeSends, EdgeReceives, IsEmitted, RelaySends, RelayReceives}
 
 -- the packet as it was taken, how it passed the first node, what went over the access network and was read there, and what was
@@ -50,7 +50,7 @@ pub record IsRelayOf (setting : Setting) (relay : Relay) : Type 0 where
 pub record ToRelay (setting : Setting) (step : Step) (answer : Answer) (relay : Relay) (c : Passed) : Type 0 where
   pub taken : IsTaken4 c.taken c.octets
   pub answered : AnsweredOut step c.taken.head.dst answer
-  pub rules : AreRulesOf setting.dmr (rules_at step)
+  pub rules : AreRulesOf setting.dmr (rules_of_step step)
   pub fits : FitsAnswer answer
   pub sent : EdgeSends setting.mtus answer c.taken c.octets c.passage
   pub emitted : IsEmitted setting.mtus c.passage c.portion c.six
@@ -66,7 +66,7 @@ pub record FromRelay (setting : Setting) (relay : Relay) (step : Step) (answer :
   pub emitted : IsEmitted setting.mtus c.passage c.portion c.six
   pub arrives : IsPacket6 false c.read c.six
   pub answered : AnsweredIn step c.read.head.src (near_addr6 c.read c.read.content) answer
-  pub rules : AreRulesOf setting.dmr (rules_at step)
+  pub rules : AreRulesOf setting.dmr (rules_of_step step)
   pub fits : FitsAnswer answer
   pub received : EdgeReceives setting.mtus (id_of setting) answer c.read c.six (Sent c.four)
 
@@ -79,13 +79,13 @@ pub record EdgeAnswer : Type 0 where
 pub record EdgeToEdge (setting : Setting) (one other : EdgeAnswer) (c : Passed) : Type 0 where
   pub taken : IsTaken4 c.taken c.octets
   pub out : AnsweredOut one.step c.taken.head.dst one.answer
-  pub rules_out : AreRulesOf setting.dmr (rules_at one.step)
+  pub rules_out : AreRulesOf setting.dmr (rules_of_step one.step)
   pub fits_out : FitsAnswer one.answer
   pub sent : EdgeSends setting.mtus one.answer c.taken c.octets c.passage
   pub emitted : IsEmitted setting.mtus c.passage c.portion c.six
   pub arrives : IsPacket6 false c.read c.six
   pub inward : AnsweredIn other.step c.read.head.src (near_addr6 c.read c.read.content) other.answer
-  pub rules_in : AreRulesOf setting.dmr (rules_at other.step)
+  pub rules_in : AreRulesOf setting.dmr (rules_of_step other.step)
   pub fits_in : FitsAnswer other.answer
   pub received : EdgeReceives setting.mtus (id_of setting) other.answer c.read c.six (Sent c.four)
 
