@@ -1,5 +1,5 @@
 -- What is read behind written headers over IPv6.
-use Rattle.std.proofs.Common.{◌≡◌, ◌≢◌, ℕ, ◌<◌, Bool, List, Option, Some, None, inl, inr, refl, sym, ap, ◌∙◌, subst, arith}
+use Rattle.std.proofs.Common.{◌≡◌, ◌≢◌, ℕ, Bool, List, Option, Some, None, inl, inr, refl, sym, ap, ◌∙◌, subst, arith}
 use Rattle.octets.specs.Protocol.{proto4, proto6}
 use Rattle.octets.specs.declared.proto.Proto.{Proto}
 use Rattle.octets.specs.declared.proto.Proto.TheVariants.{Tcp, Udp, Icmp}

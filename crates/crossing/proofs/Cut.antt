@@ -1,31 +1,28 @@
 -- The pieces of a packet that the first node cuts, there and back.
-use Rattle.std.proofs.Common.{◌≡◌, ◌≢◌, ◌⊎◌, ℕ, zero, suc, ◌+◌, ◌*◌, ◌-◌, ◌/◌, ◌%◌, ◌^◌, ◌<◌, ◌≤◌, Bool, true, false, ◌||◌, List, [], ◌∷◌, ◌++◌, length, take, drop, min, Option, Some, None, inl, inr, refl, sym, ap, ◌∙◌, subst, arith, length-drop}
+use Rattle.std.proofs.Common.{◌≡◌, ℕ, ◌+◌, ◌*◌, ◌-◌, ◌/◌, ◌%◌, ◌^◌, ◌<◌, ◌≤◌, Bool, ◌||◌, List, length, min, inl, inr, refl, sym, ap, ◌∙◌, subst, arith}
 use Rattle.std.specs.Prelude.{nat_lt}
 use Rattle.std.proofs.Math.Nat.{mul-le-mul_left}
-use Rattle.std.proofs.lemmas.Bool.{cases_lt, lt-ltb, le-ltb}
+use Rattle.std.proofs.lemmas.Bool.{cases_lt, le-ltb}
 use Rattle.octets.specs.Field.{part}
 use Rattle.octets.specs.declared.mtus.Mtus.{Mtus}
-use Rattle.octets.specs.declared.proto.Proto.{Proto}
-use Rattle.octets.specs.declared.proto.Proto.TheVariants.{Tcp, Udp, Icmp}
 use Rattle.ip4_packet.specs.declared.head.Head4.{Head4}
 use Rattle.ip4_packet.specs.Grammar.{payload_of4}
 use Rattle.ip4_packet.specs.Written.{written4}
 use Rattle.ip6_packet.specs.declared.head.Head6.{Head6}
-use Rattle.ip6_packet.specs.Fragment.{fragment_offset, more_fragments}
+use Rattle.ip6_packet.specs.Fragment.{more_fragments}
 use Rattle.ip6_packet.specs.Causes.{IsWrongFrag6}
 use Rattle.ip6_packet.specs.Grammar.{payload_of6, Is6}
-use Rattle.ip6_packet.specs.Written.{written6}
 use Rattle.ip6_packet.proofs.EmbeddedLemmas.{same_headers6, headers_of6}
 use Rattle.ip6_packet.proofs.WrittenLemmas.{written_is6}
 use Rattle.xlat46.specs.Head.{fragment_header, upper_protocol}
 use Rattle.xlat64.specs.Head.{protocol_of, translated as translated64}
-use Rattle.packet_faults.specs.Cut.{Cutting, cut_for, step_of, piece, piece_head, piece_payload, piece_frag, IsCuttable}
+use Rattle.packet_faults.specs.Cut.{Cutting, cut_for, step_of, piece, piece_head, piece_payload, IsCuttable}
 use Rattle.packet_faults.proofs.CutLemmas.{MayCut, room, give_again, found}
 use Rattle.packets.specs.declared.packet6.Packet6.{Packet6}
 use Rattle.packets.specs.Packet6.{IsPacket6}
 use Rattle.transit.proofs.Form.{low_offset}
-use Rattle.crossing.specs.Named.{Named, Sent, IsPayload, IsPart, more, piece_at}
-use Rattle.crossing.specs.Transfer.{Transfer, IsTaken, FitsHead, crossing_of, content_with}
+use Rattle.crossing.specs.Named.{Named, IsPayload, piece_at}
+use Rattle.crossing.specs.Transfer.{Transfer, IsTakenAs, crossing_of, content_with}
 use Rattle.crossing.proofs.Heads.{Reads, IsLaid, head_there, form, offset_there, more_there}
 use Rattle.crossing.proofs.Piece.{length-part, part_self}
 
@@ -38,7 +35,7 @@ pub record IsThisCut (t : Transfer) (over : List ℕ) (h : Head6) (payload : Lis
   pub head : h ≡ head_there t (length over)
   pub payload_is : payload ≡ over
 
-pub this_cut : (t : Transfer) (octets over six : List ℕ) (h : Head6) (payload : List ℕ) → IsTaken t octets → IsLaid t over six → IsCuttable h payload six → IsThisCut t over h payload
+pub this_cut : (t : Transfer) (octets over six : List ℕ) (h : Head6) (payload : List ℕ) → IsTakenAs t octets → IsLaid t over six → IsCuttable h payload six → IsThisCut t over h payload
 this_cut t octets over six h payload taken laid may =
     let low = low_offset t.taken.head (payload_of4 t.taken.head octets) octets taken.is.is taken.is.header in
     let made = form t over taken.fits taken.six low laid.fits laid.upper in
@@ -46,7 +43,7 @@ this_cut t octets over six h payload taken laid may =
     let same = found h (head_there t (length over)) payload six may (headers_of6 (head_there t (length over)) over six is) in
     record { head = same.head; payload_is = same.payload_is ∙ sym is.payload_is }
 
-may_cut : (t : Transfer) (octets over six : List ℕ) (h : Head6) (payload : List ℕ) → IsTaken t octets → t.taken.head.id < 65536 → IsLaid t over six → IsCuttable h payload six → MayCut (cut_of t over)
+may_cut : (t : Transfer) (octets over six : List ℕ) (h : Head6) (payload : List ℕ) → IsTakenAs t octets → t.taken.head.id < 65536 → IsLaid t over six → IsCuttable h payload six → MayCut (cut_of t over)
 may_cut t octets over six h payload taken id laid may =
     let same = this_cut t octets over six h payload taken laid may in
     let low = low_offset t.taken.head (payload_of4 t.taken.head octets) octets taken.is.is taken.is.header in
@@ -70,7 +67,7 @@ many : (n step : ℕ) → 1 ≤ step → n ≤ n * step
 many n step some = let up : n * 1 ≤ n * step = mul-le-mul_left n some in omega (arith, up)
 
 -- whoever takes a piece reads its header and payload
-pub piece_reads : (t : Transfer) (octets over six : List ℕ) (h : Head6) (payload : List ℕ) (k : ℕ) (at_relay : Bool) (q : Packet6) → IsTaken t octets → t.taken.head.id < 65536 → IsLaid t over six → IsCuttable h payload six
+pub piece_reads : (t : Transfer) (octets over six : List ℕ) (h : Head6) (payload : List ℕ) (k : ℕ) (at_relay : Bool) (q : Packet6) → IsTakenAs t octets → t.taken.head.id < 65536 → IsLaid t over six → IsCuttable h payload six
     → k * step_of t.mtus.mtu6 < length over → IsPacket6 at_relay q (piece (cut_of t over) (k * step_of t.mtus.mtu6)).bytes
     → Reads q (piece_head (cut_of t over) (k * step_of t.mtus.mtu6)) (piece_payload (cut_of t over) (k * step_of t.mtus.mtu6)) (piece (cut_of t over) (k * step_of t.mtus.mtu6)).bytes
 piece_reads t octets over six h payload k at_relay q taken id laid may inside is =

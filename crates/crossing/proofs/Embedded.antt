@@ -1,17 +1,15 @@
 -- What is read of the packet that an ICMPv6 error embeds.
-use Rattle.std.proofs.Common.{◌≡◌, ◌≢◌, ◌⊎◌, ℕ, zero, suc, ◌+◌, ◌*◌, ◌-◌, ◌^◌, ◌<◌, ◌≤◌, Bool, true, false, cond, List, [], ◌∷◌, ◌++◌, length, take, drop, Option, Some, None, inl, inr, refl, sym, ap, ◌∙◌, subst, arith, length-append, append_assoc}
-use Rattle.std.specs.Prelude.{nat_le, is_some}
+use Rattle.std.proofs.Common.{◌≡◌, ℕ, zero, suc, ◌+◌, ◌-◌, ◌^◌, ◌<◌, ◌≤◌, Bool, true, false, cond, List, [], ◌∷◌, ◌++◌, length, take, drop, Some, None, inl, inr, refl, sym, ap, ◌∙◌, subst, arith, length-append, append_assoc}
+use Rattle.std.specs.Prelude.{is_some}
 use Rattle.std.proofs.lemmas.Grind.{same_number_lists}
-use Rattle.std.proofs.lemmas.Bool.{cases_eq, ne_eqb, false≢true}
-use Rattle.std.proofs.lemmas.Bool.Decides.{nat_tests, leb_tells}
-use Rattle.std.proofs.lemmas.List.{take-append-drop, length-take, length-drop, places, take_all}
-use Rattle.octets.specs.Field.{octet, word, with_word, part}
+use Rattle.std.proofs.lemmas.Bool.{ne_eqb}
+use Rattle.std.proofs.lemmas.Bool.Decides.{leb_tells}
+use Rattle.std.proofs.lemmas.List.{take-append-drop, length-drop, places}
+use Rattle.octets.specs.Field.{octet, with_word, part}
 use Rattle.octets.proofs.Words.{length-with_word}
 use Rattle.octets.specs.declared.address.Addr6.{Addr6}
 use Rattle.octets.specs.declared.proto.Proto.{Proto}
 use Rattle.octets.specs.declared.proto.Proto.TheVariants.{Tcp, Udp, Icmp}
-use Rattle.ip4_packet.specs.declared.head.Head4.{Head4}
-use Rattle.ip4_packet.specs.Grammar.{payload_of4}
 use Rattle.ip6_packet.specs.declared.head.Head6.{Head6}
 use Rattle.ip6_packet.specs.declared.head.Frag6.{Frag6}
 use Rattle.ip6_packet.specs.Chain.{is_sized}
@@ -20,18 +18,14 @@ use Rattle.ip6_packet.specs.Grammar.{payload_of6}
 use Rattle.ip6_packet.specs.Written.{written6, fixed_header, fragment_part, next_header, IsUpper, IsPacket6 as IsForm6}
 use Rattle.ip6_packet.proofs.EmbeddedLemmas.{same_headers6, headers_of6}
 use Rattle.ip6_packet.proofs.WrittenLemmas.{written_is6}
-use Rattle.l4_headers.specs.declared.ports.Ports.{Ports}
-use Rattle.l4_headers.specs.declared.ports.L4.{L4}
-use Rattle.l4_headers.specs.Transport.{l4_of, with_l4}
-use Rattle.l4_headers.proofs.Laws.{length-with_l4, l4_of-with_udp}
+use Rattle.l4_headers.proofs.Laws.{length-with_l4}
 use Rattle.icmp_messages.specs.declared.inner4.Inner4.{Inner4}
 use Rattle.icmp_messages.specs.declared.inner6.Inner6.{Inner6}
-use Rattle.icmp_messages.specs.Inner.{IsInner4, IsInner6, IsCarried4, IsCarried6}
-use Rattle.xlat46.specs.Head.{is_fragment, upper_protocol, fragment_header}
-use Rattle.xlat46.specs.Whole.{ArePorts}
+use Rattle.icmp_messages.specs.Inner.{IsInner6, IsCarried4, IsCarried6}
+use Rattle.xlat46.specs.Head.{is_fragment, upper_protocol}
 use Rattle.icmp_xlat.specs.declared.ends.Ends.{Ends}
 use Rattle.icmp_xlat.specs.declared.inner.Change.{Change}
-use Rattle.icmp_xlat.specs.Inner.{inner46, inner_head46, inner_payload, inner_tcp, inner_udp, inner_echo, change46}
+use Rattle.icmp_xlat.specs.Inner.{inner46, inner_head46, inner_payload, change46}
 use Rattle.crossing.specs.Named.{inner_room}
 use Rattle.crossing.specs.Transfer.{FitsHead}
 use Rattle.crossing.proofs.Heads.{frag_of, placed_by, frag_fits}

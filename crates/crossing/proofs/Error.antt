@@ -20,19 +20,19 @@ use Rattle.icmp_messages.specs.declared.icmp4.Icmp4.{Icmp4}
 use Rattle.icmp_messages.specs.declared.icmp6.Icmp6.{Icmp6}
 use Rattle.icmp_messages.specs.declared.inner4.Inner4.{Inner4}
 use Rattle.icmp_messages.specs.declared.inner6.Inner6.{Inner6}
-use Rattle.icmp_messages.specs.Inner.{IsInner4, IsInner6, IsCarried4, IsCarried6}
+use Rattle.icmp_messages.specs.Inner.{IsInner6, IsCarried4, IsCarried6}
 use Rattle.icmp_messages.specs.Message.{message4, message6}
 use Rattle.xlat46.specs.Head.{is_fragment, upper_protocol}
-use Rattle.xlat64.specs.Head.{protocol_of, translated as translated64}
+use Rattle.xlat64.specs.Head.{protocol_of}
 use Rattle.icmp_xlat.specs.declared.ends.Ends.{Ends}
 use Rattle.icmp_xlat.specs.declared.table.Row.{Row}
 use Rattle.icmp_xlat.specs.declared.table.Rest.{Rest}
 use Rattle.icmp_xlat.specs.declared.table.Rest.TheVariants.{Query, Zero, Protocol, Mtu, Pointer}
-use Rattle.icmp_xlat.specs.Table.{table46, table64, row_of, pointers46, pointers64, pointer_of}
-use Rattle.icmp_xlat.specs.Mtu.{mtu46, mtu64}
+use Rattle.icmp_xlat.specs.Table.{table46, table64, row_of, pointers64, pointer_of}
+use Rattle.icmp_xlat.specs.Mtu.{mtu46}
 use Rattle.icmp_xlat.specs.Icmp46.{rest46, error46, embedded46, with_message46}
 use Rattle.icmp_xlat.specs.Icmp64.{rest64, error64, embedded64, with_message64}
-use Rattle.icmp_xlat.specs.Inner.{inner46, inner64, inner_head46, inner_head64, inner_payload, change46, change64}
+use Rattle.icmp_xlat.specs.Inner.{inner46, inner64, inner_head64, inner_payload, change46}
 use Rattle.packets.specs.declared.packet4.Content4.{Content4}
 use Rattle.packets.specs.declared.packet4.Content4.TheVariants.{Error as Error4}
 use Rattle.packets.specs.declared.packet6.Content6.{Content6}
@@ -41,13 +41,13 @@ use Rattle.packets.specs.declared.packet6.Packet6.{Packet6}
 use Rattle.packets.specs.Packet4.{IsContent4, IsErrorOf4}
 use Rattle.packets.specs.Packet6.{IsContent6, IsPacket6}
 use Rattle.packets.proofs.Spared6.{icmp_alone}
-use Rattle.transit.specs.Passage46.{translation46, error_packet46}
-use Rattle.transit.specs.Passage64.{translation64, error_packet64}
+use Rattle.transit.specs.Passage46.{translation46}
+use Rattle.transit.specs.Passage64.{translation64}
 use Rattle.transit.proofs.Room.{length-written4}
-use Rattle.crossing.specs.Named.{IsPayload, IsMessage, IsErrorAfter, rest_after, inner_after, inner_head, inner_room, inner_total, inner_change, uncut}
-use Rattle.crossing.specs.Transfer.{Transfer, FitsHead, FitsContent, IsTaken, IsThere, IsBack, ComesOf, crossing_of, content_with, inner_with}
+use Rattle.crossing.specs.Named.{IsPayload, IsMessage, IsErrorAfter, rest_after, inner_after, inner_head, inner_room, inner_change, uncut}
+use Rattle.crossing.specs.Transfer.{Transfer, FitsHead, FitsContent, IsTakenAs, IsThere, IsBack, ComesOf, crossing_of, content_with, inner_with}
 use Rattle.crossing.proofs.Embedded.{FitsInner, ReadsInner, reads_inner, one_proto}
-use Rattle.crossing.proofs.Heads.{id_twice, df_twice, payload_len_is, some_same, frag_of, offset_there, more_there, head_there, head_back, IsLaid, laid_inside, between, named_uncut}
+use Rattle.crossing.proofs.Heads.{id_twice, df_twice, some_same, frag_of, offset_there, more_there, head_there, head_back, IsLaid, laid_inside, between, named_uncut}
 use Rattle.crossing.proofs.Inner.{inner_there, payload_back, inner_ports, ports_read}
 use Rattle.crossing.proofs.Piece.{length-part}
 use Rattle.crossing.proofs.Query.{IsRead, is_read, found_by, length-message4, length-message6, upper_58}
@@ -130,7 +130,7 @@ rest_there mtus h m row inner ends six None e = absurd (none_sent six e)
     none_sent xs is = cc
 rest_there mtus h m row inner ends six (Some rest) e = (rest, refl, some_same (with_message46 h (error46 row rest inner ends) ends) six e)
 
-pub error_laid : (t : Transfer) (m : Icmp4) (row : Row) (inner : Inner4) (octets six : List ℕ) → t.taken.content ≡ Error4 m row inner → IsTaken t octets → IsThere t six → IsErrorLaid t m row inner six
+pub error_laid : (t : Transfer) (m : Icmp4) (row : Row) (inner : Inner4) (octets six : List ℕ) → t.taken.content ≡ Error4 m row inner → IsTakenAs t octets → IsThere t six → IsErrorLaid t m row inner six
 error_laid t m row inner octets six e taken there =
     let h = t.taken.head in
     let has : IsErrorOf4 h (payload_of4 h octets) m row inner = subst (λ (c : Content4). IsContent4 h (payload_of4 h octets) c) e taken.is.content in
@@ -176,7 +176,7 @@ zero_rest mtus total rest found kind zero is =
     let same : 0 ≡ found = same_number 0 found (rw zero at is) in
     omega arith
 
-pub sees_error : (t : Transfer) (m : Icmp4) (row : Row) (inner : Inner4) (octets six : List ℕ) (at_relay : Bool) (q : Packet6) → IsTaken t octets → (laid : IsErrorLaid t m row inner six) → IsPacket6 at_relay q six
+pub sees_error : (t : Transfer) (m : Icmp4) (row : Row) (inner : Inner4) (octets six : List ℕ) (at_relay : Bool) (q : Packet6) → IsTakenAs t octets → (laid : IsErrorLaid t m row inner six) → IsPacket6 at_relay q six
     → SeesError t row inner laid.rest q.content
 sees_error t m row inner octets six at_relay q taken laid is =
     let m6 = error46 row laid.rest inner t.six in
@@ -251,7 +251,7 @@ rest_back mtus h n row inner ends id four None e = absurd (none_sent four e)
 rest_back mtus h n row inner ends id four (Some rest) e = (rest, refl, some_same (with_message64 h (error64 row rest inner ends) ends id) four e)
 
 pub error_crosses : (t : Transfer) (m : Icmp4) (row : Row) (inner : Inner4) (octets six four : List ℕ) (at_relay : Bool) (q : Packet6) → t.taken.content ≡ Error4 m row inner
-    → IsTaken t octets → IsThere t six → IsBack t at_relay q six four → ComesOf (crossing_of t) uncut four
+    → IsTakenAs t octets → IsThere t six → IsBack t at_relay q six four → ComesOf (crossing_of t) uncut four
 error_crosses t m row inner octets six four at_relay q e taken there back =
     let id = t.number % 2 ^ 16 in
     let laid = error_laid t m row inner octets six e taken there in
@@ -302,7 +302,7 @@ pub record ReadsError (inner : Inner4) (six : Ends Addr6) (q : Content6) : Type 
   pub far : about.head.dst ≡ six.inner_dst
 
 pub error_flow : (t : Transfer) (m : Icmp4) (row : Row) (inner : Inner4) (octets six : List ℕ) (at_relay : Bool) (q : Packet6) → t.taken.content ≡ Error4 m row inner
-    → IsTaken t octets → IsThere t six → IsPacket6 at_relay q six → ReadsError inner t.six q.content
+    → IsTakenAs t octets → IsThere t six → IsPacket6 at_relay q six → ReadsError inner t.six q.content
 error_flow t m row inner octets six at_relay q e taken there is =
     let laid = error_laid t m row inner octets six e taken there in
     let sees = sees_error t m row inner octets six at_relay q taken laid is in

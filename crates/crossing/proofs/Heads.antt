@@ -1,10 +1,8 @@
 -- The header of a packet that crosses, and how it is read on the access network.
-use Rattle.std.proofs.Common.{◌≡◌, ◌≢◌, ℕ, ◌+◌, ◌-◌, ◌%◌, ◌^◌, ◌<◌, ◌≤◌, Bool, true, false, cond, not, ◌||◌, ◌&&◌, eqb, List, length, Option, Some, None, inl, inr, refl, sym, ap, ◌∙◌, subst, arith}
+use Rattle.std.proofs.Common.{◌≡◌, ℕ, ◌-◌, ◌%◌, ◌^◌, ◌<◌, ◌≤◌, Bool, true, false, cond, not, ◌||◌, ◌&&◌, eqb, List, length, Option, Some, None, inl, inr, refl, sym, ap, ◌∙◌, subst, arith}
 use Rattle.std.specs.Prelude.{nat_le, is_some}
 use Rattle.std.proofs.lemmas.Bool.{cases_eq, ne_eqb, false≢true}
 use Rattle.std.proofs.lemmas.List.{places}
-use Rattle.octets.specs.declared.address.Addr4.{Addr4}
-use Rattle.octets.specs.declared.address.Addr6.{Addr6}
 use Rattle.ip4_packet.specs.declared.head.Head4.{Head4}
 use Rattle.ip4_packet.specs.Grammar.{payload_of4, Is4}
 use Rattle.ip4_packet.specs.Written.{written4}
@@ -22,7 +20,7 @@ use Rattle.packets.specs.Packet6.{IsPacket6, IsContent6}
 use Rattle.transit.specs.Passage64.{translation64}
 use Rattle.transit.proofs.Form.{low_offset}
 use Rattle.crossing.specs.Named.{Named, IsPayload, uncut}
-use Rattle.crossing.specs.Transfer.{Transfer, FitsHead, FitsEnds, IsTaken, IsBack, crossing_of, content_with}
+use Rattle.crossing.specs.Transfer.{Transfer, FitsHead, FitsEnds, IsTakenAs, IsBack, crossing_of, content_with}
 
 -- a packet that is no fragment
 pub whole_parts : (mf : Bool) (n : ℕ) → (mf || not (eqb n 0)) ≡ false → (mf ≡ false) × (n ≡ 0)
@@ -112,7 +110,7 @@ pub record IsLaid (t : Transfer) (over six : List ℕ) : Type 0 where
   pub written : six ≡ written6 (head_there t (length over)) over
 
 -- whoever takes it reads this header and payload
-pub laid_reads : (t : Transfer) (octets over six : List ℕ) (at_relay : Bool) (q : Packet6) → IsTaken t octets → IsLaid t over six → IsPacket6 at_relay q six → Reads q (head_there t (length over)) over six
+pub laid_reads : (t : Transfer) (octets over six : List ℕ) (at_relay : Bool) (q : Packet6) → IsTakenAs t octets → IsLaid t over six → IsPacket6 at_relay q six → Reads q (head_there t (length over)) over six
 laid_reads t octets over six at_relay q taken laid is =
     let h = t.taken.head in
     let head6 = head_there t (length over) in
@@ -121,7 +119,7 @@ laid_reads t octets over six at_relay q taken laid is =
     let read = reads at_relay q head6 over (written6 head6 over) made (subst (λ (xs : List ℕ). IsPacket6 at_relay q xs) laid.written is) in
     record { head = read.head; payload_is = ap (λ (xs : List ℕ). payload_of6 q.head xs) laid.written ∙ read.payload_is }
 
-pub laid_inside : (t : Transfer) (octets over six : List ℕ) (at_relay : Bool) (q : Packet6) → IsTaken t octets → IsLaid t over six → IsPacket6 at_relay q six → IsContent6 at_relay (head_there t (length over)) over q.content
+pub laid_inside : (t : Transfer) (octets over six : List ℕ) (at_relay : Bool) (q : Packet6) → IsTakenAs t octets → IsLaid t over six → IsPacket6 at_relay q six → IsContent6 at_relay (head_there t (length over)) over q.content
 laid_inside t octets over six at_relay q taken laid is =
     let read = laid_reads t octets over six at_relay q taken laid is in
     let inside : IsContent6 at_relay q.head over q.content = subst (λ (xs : List ℕ). IsContent6 at_relay q.head xs q.content) read.payload_is is.content in
@@ -133,7 +131,7 @@ pub record Between (t : Transfer) (at_relay : Bool) (q : Packet6) (over four : L
   pub back : translation64 t.mtus (head_there t (length over)) over t.four (t.number % 2 ^ 16) q.content ≡ Some four
   pub lasts : 3 ≤ t.taken.head.ttl
 
-pub between : (t : Transfer) (octets over six four : List ℕ) (at_relay : Bool) (q : Packet6) → IsTaken t octets → IsLaid t over six → IsBack t at_relay q six four → Between t at_relay q over four
+pub between : (t : Transfer) (octets over six four : List ℕ) (at_relay : Bool) (q : Packet6) → IsTakenAs t octets → IsLaid t over six → IsBack t at_relay q six four → Between t at_relay q over four
 between t octets over six four at_relay q taken laid back =
     let id = t.number % 2 ^ 16 in
     let head6 = head_there t (length over) in

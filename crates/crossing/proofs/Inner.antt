@@ -1,5 +1,5 @@
 -- The payload of a packet that an ICMP error embeds, there and back. It is cut in between.
-use Rattle.std.proofs.Common.{◌≡◌, ◌≢◌, ◌⊎◌, ℕ, suc, ◌+◌, ◌*◌, ◌-◌, ◌<◌, ◌≤◌, Bool, true, false, cond, List, ◌∷◌, ◌++◌, length, take, drop, inl, inr, refl, sym, ap, ◌∙◌, subst, arith}
+use Rattle.std.proofs.Common.{◌≡◌, ◌≢◌, ◌⊎◌, ℕ, suc, ◌+◌, ◌*◌, ◌-◌, ◌<◌, ◌≤◌, true, false, cond, List, ◌∷◌, ◌++◌, length, take, drop, inl, inr, refl, sym, ap, ◌∙◌, subst, arith}
 use Rattle.std.specs.Prelude.{nat_le, ◌==◌}
 use Rattle.std.proofs.lemmas.Bool.{cases_eq, ne_eqb}
 use Rattle.std.proofs.lemmas.Bool.Decides.{nat_tests, leb_tells}
@@ -10,7 +10,7 @@ use Rattle.octets.proofs.Parts.{number_back}
 use Rattle.octets.proofs.Words.{length-with_word, word-with_word, word-with_word_other}
 use Rattle.octets.specs.declared.proto.Proto.{Proto}
 use Rattle.octets.specs.declared.proto.Proto.TheVariants.{Tcp, Udp, Icmp}
-use Rattle.inet_sum.specs.Sum.{words, adjusted, as_udp}
+use Rattle.inet_sum.specs.Sum.{words, adjusted}
 use Rattle.l4_headers.specs.declared.ports.Ports.{Ports}
 use Rattle.l4_headers.specs.declared.ports.L4.{L4}
 use Rattle.l4_headers.specs.Transport.{l4_of, with_l4}
@@ -31,7 +31,7 @@ use Rattle.crossing.specs.Named.{inner_change}
 use Rattle.crossing.specs.Transfer.{inner_with}
 use Rattle.crossing.proofs.Sums.{adjusted-twice, written-twice, adjusted_fits, udp_fits, udp_some}
 use Rattle.crossing.proofs.Twice.{over, apart, three, with_l4-twice}
-use Rattle.crossing.proofs.Piece.{length-part, word_first, three_front, with_l4-front, l4_of-front}
+use Rattle.crossing.proofs.Piece.{word_first, three_front, with_l4-front, l4_of-front}
 
 -- ---- TCP of which at least the sum stands
 
@@ -233,12 +233,12 @@ PayloadBack inner six four room ports =
 six_of : (room : ℕ) → 20 ≤ room → room ≡ six_more (room - 6)
 six_of room fits = omega arith
 
-payload_back_by : (proto : Proto) (inner : Inner4) (six : Ends Addr6) (four : Ends Addr4) (room : ℕ) (ports : Ports) → inner.proto ≡ proto → 20 ≤ room → 8 ≤ length inner.payload → ArePorts six.ports → IsCarried4 proto inner.head.proto inner.payload
+payload_back_by : (proto : Proto) (inner : Inner4) (six : Ends Addr6) (four : Ends Addr4) (room : ℕ) (ports : Ports) → 20 ≤ room → 8 ≤ length inner.payload → ArePorts six.ports → IsCarried4 proto inner.head.proto inner.payload
     → inner_payload proto (take room (inner_payload proto inner.payload (change46 inner six proto))) (change64 (record { head = inner_head46 inner six; payload = take room (inner_payload proto inner.payload (change46 inner six proto)); ports = ports; proto = proto }) four proto)
     ≡ take room (inner_payload proto inner.payload (inner_change inner (inner_with four inner) proto))
-payload_back_by Tcp inner six four room ports same fits stands are is = tcp_twice inner.payload room (addresses4 inner.head) (addresses_of6 six.inner_src six.inner_dst) (addresses_of4 four.inner_src four.inner_dst) six.ports four.ports 0 0 0 stands fits are
-payload_back_by Udp inner six four room ports same fits stands are is = udp_twice inner.payload room (addresses4 inner.head) (addresses_of6 six.inner_src six.inner_dst) (addresses_of4 four.inner_src four.inner_dst) six.ports four.ports 0 0 0 stands fits are
-payload_back_by Icmp inner six four room ports same fits stands are is =
+payload_back_by Tcp inner six four room ports fits stands are is = tcp_twice inner.payload room (addresses4 inner.head) (addresses_of6 six.inner_src six.inner_dst) (addresses_of4 four.inner_src four.inner_dst) six.ports four.ports 0 0 0 stands fits are
+payload_back_by Udp inner six four room ports fits stands are is = udp_twice inner.payload room (addresses4 inner.head) (addresses_of6 six.inner_src six.inner_dst) (addresses_of4 four.inner_src four.inner_dst) six.ports four.ports 0 0 0 stands fits are
+payload_back_by Icmp inner six four room ports fits stands are is =
     let k = octet inner.payload 0 in
     let mid = words (pseudo_header6 six.inner_src six.inner_dst 58 (inner.head.total - inner.head.head_len)) in
     let stated = λ (n : ℕ). inner_payload Icmp (take n (inner_payload Icmp inner.payload (change46 inner six Icmp))) (change64 (record { head = inner_head46 inner six; payload = take n (inner_payload Icmp inner.payload (change46 inner six Icmp)); ports = ports; proto = Icmp }) four Icmp) ≡ take n (inner_payload Icmp inner.payload (inner_change inner (inner_with four inner) Icmp)) in
@@ -247,7 +247,7 @@ payload_back_by Icmp inner six four room ports same fits stands are is =
     ∙ ap (λ (x : ℕ). take (six_more (room - 6)) (inner_echo inner.payload (record { before = 0; after = 0; ports = four.ports; kind = x }))) (echo_back k is.1.0))
 
 pub payload_back : (inner : Inner4) (six : Ends Addr6) (four : Ends Addr4) (room : ℕ) (ports : Ports) → 20 ≤ room → 8 ≤ length inner.payload → ArePorts six.ports → IsCarried4 inner.proto inner.head.proto inner.payload → PayloadBack inner six four room ports
-payload_back inner six four room ports fits stands are is = payload_back_by inner.proto inner six four room ports refl fits stands are is
+payload_back inner six four room ports fits stands are is = payload_back_by inner.proto inner six four room ports fits stands are is
 
 -- ---- the ports that are read of it
 

@@ -1,25 +1,20 @@
 -- Later fragments of TCP and UDP, there and back.
-use Rattle.std.proofs.Common.{◌≡◌, ◌≢◌, ℕ, ◌+◌, ◌-◌, ◌%◌, ◌^◌, ◌<◌, ◌≤◌, Bool, List, length, Option, Some, None, refl, sym, ap, ◌∙◌, subst, arith}
+use Rattle.std.proofs.Common.{◌≡◌, ℕ, ◌-◌, ◌%◌, ◌^◌, Bool, List, length, Some, refl, sym, ap, ◌∙◌, subst, arith}
 use Rattle.octets.specs.declared.proto.Proto.{Proto}
 use Rattle.ip4_packet.specs.Grammar.{payload_of4}
 use Rattle.ip4_packet.specs.Written.{written4}
-use Rattle.ip6_packet.specs.declared.head.Head6.{Head6}
-use Rattle.ip6_packet.specs.Grammar.{payload_of6}
 use Rattle.ip6_packet.specs.Written.{written6}
-use Rattle.xlat46.specs.Head.{translated as translated46}
-use Rattle.xlat64.specs.Head.{translated as translated64}
 use Rattle.packets.specs.declared.packet4.Content4.{Content4}
 use Rattle.packets.specs.declared.packet4.Content4.TheVariants.{Later as Later4}
 use Rattle.packets.specs.declared.packet6.Content6.{Content6}
 use Rattle.packets.specs.declared.packet6.Content6.TheVariants.{Later as Later6}
 use Rattle.packets.specs.declared.packet6.Packet6.{Packet6}
 use Rattle.packets.specs.Packet4.{IsContent4, IsLater4}
-use Rattle.packets.specs.Packet6.{IsContent6, IsPacket6}
+use Rattle.packets.specs.Packet6.{IsPacket6}
 use Rattle.transit.specs.Passage46.{translation46}
 use Rattle.transit.specs.Passage64.{translation64}
-use Rattle.transit.proofs.Form.{low_offset}
 use Rattle.crossing.specs.Named.{IsPayload, uncut}
-use Rattle.crossing.specs.Transfer.{Transfer, IsTaken, IsThere, IsBack, ComesOf, crossing_of, content_with}
+use Rattle.crossing.specs.Transfer.{Transfer, IsTakenAs, IsThere, IsBack, ComesOf, crossing_of, content_with}
 use Rattle.crossing.proofs.Heads.{payload_len_is, some_same, offset_there, head_there, head_back, IsLaid, laid_inside, between, named_uncut}
 use Rattle.crossing.proofs.Contents.{IsFlowNumber, flow_number, one_later}
 
@@ -28,7 +23,7 @@ pub record IsLaterLaid (t : Transfer) (proto : Proto) (six : List ℕ) : Type 0 
   pub number : IsFlowNumber t.taken.head.proto proto
   pub laid : IsLaid t t.payload six
 
-pub later_laid : (t : Transfer) (proto : Proto) (octets six : List ℕ) → t.taken.content ≡ Later4 proto → IsTaken t octets → IsThere t six → IsLaterLaid t proto six
+pub later_laid : (t : Transfer) (proto : Proto) (octets six : List ℕ) → t.taken.content ≡ Later4 proto → IsTakenAs t octets → IsThere t six → IsLaterLaid t proto six
 later_laid t proto octets six e taken there =
     let h = t.taken.head in
     let over = t.payload in
@@ -46,13 +41,13 @@ later_laid t proto octets six e taken there =
     }
 
 pub later_content : (t : Transfer) (proto : Proto) (octets six : List ℕ) (at_relay : Bool) (q : Packet6) → t.taken.content ≡ Later4 proto
-    → IsTaken t octets → IsThere t six → IsPacket6 at_relay q six → q.content ≡ Later6 proto
+    → IsTakenAs t octets → IsThere t six → IsPacket6 at_relay q six → q.content ≡ Later6 proto
 later_content t proto octets six at_relay q e taken there is =
     let laid = later_laid t proto octets six e taken there in
     one_later at_relay (head_there t (length t.payload)) t.payload proto q.content laid.number.six laid.has.no_icmp (λ first. laid.has.later (sym (offset_there t.taken.head) ∙ first)) (laid_inside t octets t.payload six at_relay q taken laid.laid is)
 
 pub later_crosses : (t : Transfer) (proto : Proto) (octets six four : List ℕ) (at_relay : Bool) (q : Packet6) → t.taken.content ≡ Later4 proto
-    → IsTaken t octets → IsThere t six → IsBack t at_relay q six four → ComesOf (crossing_of t) uncut four
+    → IsTakenAs t octets → IsThere t six → IsBack t at_relay q six four → ComesOf (crossing_of t) uncut four
 later_crosses t proto octets six four at_relay q e taken there back =
     let over = t.payload in
     let laid = later_laid t proto octets six e taken there in

@@ -1,20 +1,17 @@
 -- The headers at the front of octets stay where octets are added at the end.
-use Rattle.std.proofs.Common.{◌≡◌, ◌⊎◌, ℕ, zero, suc, ◌+◌, ◌*◌, ◌-◌, ◌/◌, ◌<◌, ◌≤◌, Bool, true, false, cond, ◌||◌, List, [], ◌∷◌, ◌++◌, length, take, drop, get_or, Option, Some, None, inl, inr, refl, sym, ap, ◌∙◌, subst, arith, length-append, length-drop}
+use Rattle.std.proofs.Common.{◌≡◌, ℕ, suc, ◌+◌, ◌/◌, ◌<◌, ◌≤◌, Bool, true, false, cond, List, ◌++◌, length, drop, Option, Some, None, inl, inr, sym, ap, ◌∙◌, arith, length-append}
 use Rattle.std.specs.Prelude.{◌==◌, nat_lt}
-use Rattle.std.specs.Option.{option_or}
-use Rattle.std.proofs.lemmas.Bool.{false≢true, cases_Bool}
 use Rattle.std.proofs.lemmas.Bool.Decides.{nat_tests, leb_tells}
-use Rattle.std.proofs.lemmas.List.{get_or_append_left, drop-append-le, places}
+use Rattle.std.proofs.lemmas.List.{get_or_append_left, places}
 use Rattle.std.proofs.lemmas.Grind.{same_number_lists}
 use Rattle.octets.specs.Bits.{bits_at}
-use Rattle.octets.specs.Field.{octet, word, quad, sixteen, part}
+use Rattle.octets.specs.Field.{octet, part}
 use Rattle.octets.proofs.Parts.{number-append}
 use Rattle.ip6_packet.specs.declared.chain.Chain.{Chain}
 use Rattle.ip6_packet.specs.declared.head.Head6.{Head6}
-use Rattle.ip6_packet.specs.declared.head.Frag6.{Frag6}
-use Rattle.ip6_packet.specs.Chain.{chain_in, end_of, fragment_end, frag_of, behind, route_at, is_sized}
+use Rattle.ip6_packet.specs.Chain.{chain_in, end_of, fragment_end, frag_of, is_sized}
 use Rattle.ip6_packet.specs.Embedded.{HasHeaders6}
-use Rattle.ip6_packet.specs.Grammar.{payload_len, chain_of, HasFields6}
+use Rattle.ip6_packet.specs.Grammar.{payload_len, HasFields6}
 use Rattle.ip6_packet.proofs.ChainLemmas.{tail}
 
 no_chain : (c : Chain) → ◌≡◌ {A = Option Chain} None (Some c) → ⊥

@@ -1,6 +1,5 @@
 -- A packet that was sent over the access network, whole or as one of the pieces of one.
-use Rattle.std.proofs.Common.{◌≡◌, ◌≢◌, ◌⊎◌, ℕ, suc, ◌+◌, ◌*◌, ◌/◌, ◌<◌, ◌≤◌, Bool, false, List, length, Option, Some, None, inl, inr, refl, sym, ap, ◌∙◌, subst, arith}
-use Rattle.std.specs.Prelude.{slice_get}
+use Rattle.std.proofs.Common.{◌≡◌, ◌⊎◌, ℕ, ◌+◌, ◌*◌, ◌/◌, ◌<◌, ◌≤◌, Bool, false, List, length, Option, Some, None, inl, inr, refl, sym, ap, ◌∙◌, subst, arith}
 use Rattle.std.proofs.lemmas.Bool.{cases_lt, false≢true}
 use Rattle.octets.specs.Field.{part}
 use Rattle.octets.specs.declared.parcel.Parcel.{Parcel}
@@ -10,10 +9,9 @@ use Rattle.ip6_packet.specs.declared.head.Head6.{Head6}
 use Rattle.ip6_packet.specs.Fragment.{fragment_offset}
 use Rattle.octets.specs.declared.address.Addr6.{Addr6}
 use Rattle.icmp_xlat.specs.declared.ends.Ends.{Ends}
-use Rattle.l4_headers.specs.declared.ports.Ports.{Ports}
 use Rattle.l4_headers.specs.declared.ports.L4.{L4}
 use Rattle.l4_headers.specs.Transport.{header_octets, l4_of}
-use Rattle.packet_faults.specs.Cut.{AreCut, IsCuttable, cut_for, piece, piece_head, piece_payload, step_of}
+use Rattle.packet_faults.specs.Cut.{AreCut, cut_for, piece, piece_head, piece_payload, step_of}
 use Rattle.packets.specs.declared.packet4.Content4.{Content4}
 use Rattle.packets.specs.declared.packet4.Content4.TheVariants.{Segment as Segment4, Later as Later4, Query as Query4, Error as Error4}
 use Rattle.packets.specs.declared.packet6.Content6.{Content6}
@@ -22,14 +20,14 @@ use Rattle.packets.specs.declared.packet6.Packet6.{Packet6}
 use Rattle.packets.specs.Packet6.{IsContent6, IsPacket6}
 use Rattle.transit.specs.Passage46.{is_message4}
 use Rattle.crossing.specs.Named.{Portion, uncut, piece_at}
-use Rattle.crossing.specs.Transfer.{Transfer, FitsPorts, IsTaken, IsThere, IsPieceThere, IsSentThere, IsBack, ComesOf, crossing_of}
-use Rattle.crossing.proofs.Heads.{Reads, IsLaid, offset_there, head_there}
+use Rattle.crossing.specs.Transfer.{Transfer, IsTakenAs, IsPieceThere, IsSentThere, IsBack, ComesOf, crossing_of}
+use Rattle.crossing.proofs.Heads.{Reads, IsLaid, offset_there}
 use Rattle.crossing.proofs.Contents.{one_segment, one_later}
-use Rattle.crossing.proofs.Segment.{ReadsFlow, again_of, payload_there, length_there, segment_laid}
+use Rattle.crossing.proofs.Segment.{ReadsFlow, again_of, payload_there, segment_laid}
 use Rattle.crossing.proofs.Later.{later_laid}
 use Rattle.crossing.proofs.Piece.{l4_of-front}
 use Rattle.crossing.proofs.Cut.{cut_of, step_least, this_cut, piece_reads}
-use Rattle.crossing.proofs.Pieces.{ComesOfPiece, IsAt, place_of, IsCutThere, cut_there}
+use Rattle.crossing.proofs.Pieces.{place_of, cut_there}
 use Rattle.crossing.proofs.Uncut.{crosses, ReadsEnds, reads_ends, FlowIs, reads_flow}
 
 -- a piece that was found among them is that of its number
@@ -46,7 +44,7 @@ bytes_of p r e = ap (λ (x : Parcel). x.bytes) (same p r e)
 none_found : (p : Parcel) → ◌≡◌ {A = Option Parcel} None (Some p) → ⊥
 none_found p e = cc
 
-this_piece : (t : Transfer) (octets over six : List ℕ) (at : ℕ) → IsTaken t octets → (is : IsPieceThere t at six) → IsLaid t over is.octets → IsThisPiece t over six is.k
+this_piece : (t : Transfer) (octets over six : List ℕ) (at : ℕ) → IsTakenAs t octets → (is : IsPieceThere t at six) → IsLaid t over is.octets → IsThisPiece t over six is.k
 this_piece t octets over six at taken is laid =
     let h : Head6 = is.cut.0 in
     let payload : List ℕ = is.cut.1 in
@@ -60,7 +58,7 @@ this_piece t octets over six at taken is laid =
 
 -- ---- what comes of it
 
-piece_crosses : (t : Transfer) (octets six four : List ℕ) (at : ℕ) (at_relay : Bool) (q : Packet6) → IsTaken t octets → IsPieceThere t at six → IsBack t at_relay q six four → ComesOf (crossing_of t) (piece_at at) four
+piece_crosses : (t : Transfer) (octets six four : List ℕ) (at : ℕ) (at_relay : Bool) (q : Packet6) → IsTakenAs t octets → IsPieceThere t at six → IsBack t at_relay q six four → ComesOf (crossing_of t) (piece_at at) four
 piece_crosses t octets six four at at_relay q taken is back =
     let there = cut_there t octets is.octets is.flows taken is.id is.there back.ports in
     let over : List ℕ = there.0 in
@@ -70,7 +68,7 @@ piece_crosses t octets six four at at_relay q taken is back =
     let one = cut.each is.cut.0 is.cut.1 four is.k at_relay q is.cut.2 this.inside (subst (λ (xs : List ℕ). IsBack t at_relay q xs four) this.is back) in
     subst (λ (n : ℕ). ComesOf (crossing_of t) (piece_at n) four) (sym is.begins) (record { whole = whole; sent = one.sent; named = one.named; octets_are = one.octets_are })
 
-pub over_crosses : (t : Transfer) (octets six four : List ℕ) (portion : Portion) (at_relay : Bool) (q : Packet6) → IsTaken t octets → IsSentThere t portion six → IsBack t at_relay q six four
+pub over_crosses : (t : Transfer) (octets six four : List ℕ) (portion : Portion) (at_relay : Bool) (q : Packet6) → IsTakenAs t octets → IsSentThere t portion six → IsBack t at_relay q six four
     → ComesOf (crossing_of t) portion four
 over_crosses t octets six four uncut at_relay q taken there back = crosses t octets six four at_relay q taken there back
 over_crosses t octets six four (piece_at at) at_relay q taken there back = piece_crosses t octets six four at at_relay q taken there back
@@ -100,7 +98,7 @@ pub record Seen (t : Transfer) (q : Packet6) : Type 0 where
   pub ends : ReadsEnds t q
   pub flow : FlowMay t.taken.content t.six q.content
 
-piece_seen : (t : Transfer) (octets six : List ℕ) (at : ℕ) (at_relay : Bool) (q : Packet6) → IsTaken t octets → IsPieceThere t at six → IsPacket6 at_relay q six → Seen t q
+piece_seen : (t : Transfer) (octets six : List ℕ) (at : ℕ) (at_relay : Bool) (q : Packet6) → IsTakenAs t octets → IsPieceThere t at six → IsPacket6 at_relay q six → Seen t q
 piece_seen t octets six at at_relay q taken is read_is = by t.taken.content refl is.flows
   where
     by : (c : Content4) → t.taken.content ≡ c → is_message4 c ≡ false → Seen t q
@@ -140,6 +138,6 @@ piece_seen t octets six at at_relay q taken is read_is = by t.taken.content refl
     by (Query4 m row) e flows = absurd (false≢true (sym flows))
     by (Error4 m row inner) e flows = absurd (false≢true (sym flows))
 
-pub seen : (t : Transfer) (octets six : List ℕ) (portion : Portion) (at_relay : Bool) (q : Packet6) → IsTaken t octets → IsSentThere t portion six → IsPacket6 at_relay q six → Seen t q
+pub seen : (t : Transfer) (octets six : List ℕ) (portion : Portion) (at_relay : Bool) (q : Packet6) → IsTakenAs t octets → IsSentThere t portion six → IsPacket6 at_relay q six → Seen t q
 seen t octets six uncut at_relay q taken there is = record { ends = reads_ends t octets six at_relay q taken there is; flow = inl (reads_flow t octets six at_relay q taken there is) }
 seen t octets six (piece_at at) at_relay q taken there is = piece_seen t octets six at at_relay q taken there is

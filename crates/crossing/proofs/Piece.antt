@@ -1,32 +1,14 @@
 -- A packet that the first node cuts: each piece there and back, and all of them together.
-use Rattle.std.proofs.Common.{◌≡◌, ◌≢◌, ◌⊎◌, ℕ, zero, suc, ◌+◌, ◌*◌, ◌-◌, ◌/◌, ◌%◌, ◌^◌, ◌<◌, ◌≤◌, Bool, true, false, ◌||◌, List, [], ◌∷◌, ◌++◌, length, take, drop, min, Option, Some, None, inl, inr, refl, sym, ap, ◌∙◌, subst, arith, length-drop}
-use Rattle.std.specs.Prelude.{nat_lt}
-use Rattle.std.proofs.lemmas.Bool.{cases_lt, lt-ltb, le-ltb}
+use Rattle.std.proofs.Common.{◌≡◌, ◌≢◌, ℕ, suc, ◌+◌, ◌-◌, ◌<◌, ◌≤◌, List, length, drop, min, refl, ap, ◌∙◌, arith, length-drop}
 use Rattle.std.proofs.lemmas.List.{places, length-take}
 use Rattle.std.proofs.lemmas.Grind.{same_number_lists}
 use Rattle.octets.specs.Field.{part, octet, word, with_word}
 use Rattle.octets.proofs.Words.{length-with_word}
-use Rattle.octets.specs.declared.mtus.Mtus.{Mtus}
-use Rattle.octets.specs.declared.parcel.Parcel.{Parcel}
 use Rattle.octets.specs.declared.proto.Proto.{Proto}
 use Rattle.octets.specs.declared.proto.Proto.TheVariants.{Tcp, Udp, Icmp}
-use Rattle.ip6_packet.specs.declared.head.Head6.{Head6}
-use Rattle.ip6_packet.specs.Fragment.{fragment_offset}
-use Rattle.ip6_packet.specs.Grammar.{payload_of6}
-use Rattle.ip6_packet.specs.Written.{written6}
-use Rattle.ip6_packet.proofs.EmbeddedLemmas.{same_headers6, headers_of6}
-use Rattle.ip6_packet.proofs.WrittenLemmas.{written_is6}
 use Rattle.l4_headers.specs.declared.ports.Ports.{Ports}
 use Rattle.l4_headers.specs.declared.ports.L4.{L4}
 use Rattle.l4_headers.specs.Transport.{header_octets, l4_of, with_l4}
-use Rattle.packet_faults.specs.Cut.{Cutting, cut_for, step_of, piece, piece_head, piece_payload, IsCuttable}
-use Rattle.packet_faults.proofs.CutLemmas.{MayCut, room, give_again}
-use Rattle.packets.specs.declared.packet6.Packet6.{Packet6}
-use Rattle.packets.specs.Packet6.{IsPacket6}
-use Rattle.crossing.specs.Transfer.{Transfer, IsTaken}
-use Rattle.crossing.proofs.Heads.{Reads, IsLaid, head_there, form}
-use Rattle.transit.proofs.Form.{low_offset}
-use Rattle.ip4_packet.specs.Grammar.{payload_of4}
 
 -- ---- octets of a piece
 

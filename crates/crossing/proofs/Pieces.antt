@@ -1,5 +1,5 @@
 -- Each piece of a packet that the first node cuts crosses with the named header changes.
-use Rattle.std.proofs.Common.{◌≡◌, ◌≢◌, ◌⊎◌, ℕ, zero, suc, ◌+◌, ◌*◌, ◌-◌, ◌/◌, ◌%◌, ◌^◌, ◌<◌, ◌≤◌, Bool, false, List, length, Option, Some, None, inl, inr, refl, sym, ap, ◌∙◌, subst, arith}
+use Rattle.std.proofs.Common.{◌≡◌, ◌≢◌, ◌⊎◌, ℕ, zero, suc, ◌+◌, ◌*◌, ◌-◌, ◌/◌, ◌%◌, ◌^◌, ◌<◌, ◌≤◌, Bool, false, List, length, Some, inl, inr, refl, sym, ap, ◌∙◌, subst, arith}
 use Rattle.std.proofs.Math.Nat.{mul-le-mul_right, mul-mod_left, mul_assoc}
 use Rattle.std.proofs.lemmas.Bool.{false≢true}
 use Rattle.octets.specs.Field.{part}
@@ -8,9 +8,8 @@ use Rattle.octets.specs.declared.proto.Proto.TheVariants.{Tcp, Udp, Icmp}
 use Rattle.ip4_packet.specs.Written.{written4}
 use Rattle.ip6_packet.specs.declared.head.Head6.{Head6}
 use Rattle.ip6_packet.specs.Fragment.{fragment_offset}
-use Rattle.ip6_packet.specs.Grammar.{payload_of6}
 use Rattle.l4_headers.specs.declared.ports.L4.{L4}
-use Rattle.l4_headers.specs.Transport.{header_octets, l4_of, with_l4}
+use Rattle.l4_headers.specs.Transport.{header_octets, with_l4}
 use Rattle.l4_headers.specs.Readdressed.{readdressed_sum}
 use Rattle.xlat46.specs.Whole.{ArePorts}
 use Rattle.xlat64.specs.Whole.{Parts6, addresses_before, addresses_after, payload64, packet64}
@@ -18,19 +17,18 @@ use Rattle.packet_faults.specs.Cut.{step_of, piece, piece_head, piece_payload, I
 use Rattle.packets.specs.declared.packet4.Content4.{Content4}
 use Rattle.packets.specs.declared.packet4.Content4.TheVariants.{Segment as Segment4, Later as Later4, Query as Query4, Error as Error4}
 use Rattle.packets.specs.declared.packet6.Content6.{Content6}
-use Rattle.packets.specs.declared.packet6.Content6.TheVariants.{Segment as Segment6, Later as Later6}
 use Rattle.packets.specs.declared.packet6.Packet6.{Packet6}
-use Rattle.packets.specs.Packet6.{IsContent6, IsPacket6}
+use Rattle.packets.specs.Packet6.{IsContent6}
 use Rattle.transit.specs.Passage46.{is_message4}
 use Rattle.transit.specs.Passage64.{translation64}
 use Rattle.crossing.specs.Named.{Named, Sent, IsPayload, piece_at}
-use Rattle.crossing.specs.Transfer.{Transfer, FitsPorts, IsTaken, IsThere, IsBack, crossing_of, content_with}
+use Rattle.crossing.specs.Transfer.{Transfer, FitsPorts, IsTakenAs, IsThere, IsBack, crossing_of, content_with}
 use Rattle.crossing.proofs.Heads.{some_same, offset_there, head_there, Reads, IsLaid}
 use Rattle.crossing.proofs.Contents.{one_segment, one_later}
 use Rattle.crossing.proofs.Segment.{payload_there, payload_back, sum_back, length_there, length_back, segment_laid, segment_is}
 use Rattle.crossing.proofs.Later.{later_laid}
 use Rattle.crossing.proofs.Piece.{l4_of-front, with_l4-front, with_l4-behind}
-use Rattle.crossing.proofs.Cut.{cut_of, step_least, piece_reads, piece_back, IsPieceOf, named_piece}
+use Rattle.crossing.proofs.Cut.{cut_of, step_least, piece_reads, piece_back, named_piece}
 
 -- what comes of one piece, where all of the payload is this one
 pub record ComesOfPiece (t : Transfer) (whole : List ℕ) (at : ℕ) (four : List ℕ) : Type 0 where
@@ -90,7 +88,7 @@ pub record IsAt (t : Transfer) (over : List ℕ) (at : ℕ) : Type 0 where
   pub units : at % 8 ≡ 0
   pub apart : (at ≡ 0) ⊎ (20 ≤ at)
 
-segment_at : (t : Transfer) (proto : Proto) (l4 : L4) (octets six four : List ℕ) (at : ℕ) (at_relay : Bool) (q : Packet6) → t.taken.content ≡ Segment4 proto l4 → IsTaken t octets → t.taken.head.id < 65536 → IsThere t six
+segment_at : (t : Transfer) (proto : Proto) (l4 : L4) (octets six four : List ℕ) (at : ℕ) (at_relay : Bool) (q : Packet6) → t.taken.content ≡ Segment4 proto l4 → IsTakenAs t octets → t.taken.head.id < 65536 → IsThere t six
     → IsAt t (payload_there t proto) at → Reads q (piece_head (cut_of t (payload_there t proto)) at) (piece_payload (cut_of t (payload_there t proto)) at) (piece (cut_of t (payload_there t proto)) at).bytes
     → IsBack t at_relay q (piece (cut_of t (payload_there t proto)) at).bytes four → ArePorts t.four.ports → ComesOfPiece t (payload_back t proto) at four
 segment_at t proto l4 octets six four at at_relay q e taken small there place reads back ports =
@@ -130,7 +128,7 @@ segment_at t proto l4 octets six four at at_relay q e taken small there place re
           }
     ]
 
-later_at : (t : Transfer) (proto : Proto) (octets six four : List ℕ) (at : ℕ) (at_relay : Bool) (q : Packet6) → t.taken.content ≡ Later4 proto → IsTaken t octets → t.taken.head.id < 65536 → IsThere t six
+later_at : (t : Transfer) (proto : Proto) (octets six four : List ℕ) (at : ℕ) (at_relay : Bool) (q : Packet6) → t.taken.content ≡ Later4 proto → IsTakenAs t octets → t.taken.head.id < 65536 → IsThere t six
     → IsAt t t.payload at → Reads q (piece_head (cut_of t t.payload) at) (piece_payload (cut_of t t.payload) at) (piece (cut_of t t.payload) at).bytes
     → IsBack t at_relay q (piece (cut_of t t.payload) at).bytes four → ComesOfPiece t t.payload at four
 later_at t proto octets six four at at_relay q e taken small there place reads back =
@@ -174,7 +172,7 @@ pub record IsCutThere (t : Transfer) (six over whole : List ℕ) : Type 0 where
   pub each : (h : Head6) (payload four : List ℕ) (k : ℕ) (at_relay : Bool) (q : Packet6) → IsCuttable h payload six
       → k * step_of t.mtus.mtu6 < length over → IsBack t at_relay q (piece (cut_of t over) (k * step_of t.mtus.mtu6)).bytes four → ComesOfPiece t whole (k * step_of t.mtus.mtu6) four
 
-pub cut_there : (t : Transfer) (octets six : List ℕ) → is_message4 t.taken.content ≡ false → IsTaken t octets → t.taken.head.id < 65536 → IsThere t six → FitsPorts t.taken.content t.four.ports
+pub cut_there : (t : Transfer) (octets six : List ℕ) → is_message4 t.taken.content ≡ false → IsTakenAs t octets → t.taken.head.id < 65536 → IsThere t six → FitsPorts t.taken.content t.four.ports
     → (over : List ℕ) × (whole : List ℕ) × IsCutThere t six over whole
 cut_there t octets six flows taken small there ports = by t.taken.content refl flows ports
   where

@@ -1,13 +1,10 @@
 -- Echo requests and replies, there and back.
-use Rattle.std.proofs.Common.{◌≡◌, ◌≢◌, ◌⊎◌, ℕ, suc, ◌+◌, ◌*◌, ◌-◌, ◌/◌, ◌%◌, ◌^◌, ◌<◌, ◌≤◌, Bool, List, ◌∷◌, ◌++◌, length, drop, Option, Some, None, inl, inr, refl, sym, ap, ◌∙◌, subst, arith, length-append}
-use Rattle.std.specs.Int.{bytes_high_first}
+use Rattle.std.proofs.Common.{◌≡◌, ℕ, ◌+◌, ◌*◌, ◌-◌, ◌/◌, ◌%◌, ◌^◌, ◌<◌, ◌≤◌, Bool, List, ◌++◌, length, Some, refl, sym, ap, ◌∙◌, subst, arith}
 use Rattle.std.proofs.lemmas.List.{length-drop}
-use Rattle.octets.specs.Field.{octet, quad, in_word, in_quad}
+use Rattle.octets.specs.Field.{quad}
 use Rattle.octets.proofs.Parts.{number_back}
 use Rattle.inet_sum.specs.Sum.{words, check_sum}
-use Rattle.octets.specs.Protocol.{proto6}
 use Rattle.octets.specs.declared.address.Addr6.{Addr6}
-use Rattle.octets.specs.declared.proto.Proto.{Proto}
 use Rattle.octets.specs.declared.proto.Proto.TheVariants.{Icmp}
 use Rattle.ip4_packet.specs.Grammar.{payload_of4}
 use Rattle.ip4_packet.specs.Written.{written4}
@@ -16,7 +13,7 @@ use Rattle.ip6_packet.specs.Written.{written6, IsUpper}
 use Rattle.l4_headers.specs.declared.ports.Ports.{Ports}
 use Rattle.icmp_messages.specs.declared.icmp4.Icmp4.{Icmp4}
 use Rattle.icmp_messages.specs.declared.icmp6.Icmp6.{Icmp6}
-use Rattle.icmp_messages.specs.Message.{IsIcmp4, IsIcmp6, front, with_sum4, with_sum6, covered6, message4, message6}
+use Rattle.icmp_messages.specs.Message.{IsIcmp6, front, with_sum4, with_sum6, covered6, message4, message6}
 use Rattle.xlat46.specs.Head.{upper_protocol}
 use Rattle.xlat64.specs.Head.{protocol_of}
 use Rattle.icmp_xlat.specs.declared.table.Row.{Row}
@@ -36,7 +33,7 @@ use Rattle.transit.specs.Passage46.{translation46}
 use Rattle.transit.specs.Passage64.{translation64}
 use Rattle.crossing.specs.Nat44.{with_identifier}
 use Rattle.crossing.specs.Named.{IsPayload, IsMessage, IsQueryAfter, uncut}
-use Rattle.crossing.specs.Transfer.{Transfer, IsTaken, IsThere, IsBack, ComesOf, crossing_of, content_with}
+use Rattle.crossing.specs.Transfer.{Transfer, IsTakenAs, IsThere, IsBack, ComesOf, crossing_of, content_with}
 use Rattle.crossing.proofs.Heads.{payload_len_is, some_same, head_there, head_back, IsLaid, laid_inside, between, named_uncut}
 use Rattle.crossing.proofs.Rows.{query_again}
 use Rattle.crossing.proofs.Segment.{ReadsFlow}
@@ -108,7 +105,7 @@ pub record IsQueryLaid (t : Transfer) (m : Icmp4) (row : Row) (six : List ℕ) :
   pub short : 8 + length m.body ≤ 65515
   pub laid : IsLaid t (message6 t.six.src t.six.dst (query46 m row t.six)) six
 
-pub query_laid : (t : Transfer) (m : Icmp4) (row : Row) (octets six : List ℕ) → t.taken.content ≡ Query4 m row → IsTaken t octets → IsThere t six → IsQueryLaid t m row six
+pub query_laid : (t : Transfer) (m : Icmp4) (row : Row) (octets six : List ℕ) → t.taken.content ≡ Query4 m row → IsTakenAs t octets → IsThere t six → IsQueryLaid t m row six
 query_laid t m row octets six e taken there =
     let h = t.taken.head in
     let has : IsMessage4 h (payload_of4 h octets) m row × (row.rest ≡ Query) = subst (λ (c : Content4). IsContent4 h (payload_of4 h octets) c) e taken.is.content in
@@ -131,7 +128,7 @@ query_laid t m row octets six e taken there =
     }
 
 -- what is read of it there
-pub query_read : (t : Transfer) (m : Icmp4) (row : Row) (octets six : List ℕ) (at_relay : Bool) (q : Packet6) → IsTaken t octets → IsQueryLaid t m row six → IsPacket6 at_relay q six → IsOneQuery (query46 m row t.six) q.content
+pub query_read : (t : Transfer) (m : Icmp4) (row : Row) (octets six : List ℕ) (at_relay : Bool) (q : Packet6) → IsTakenAs t octets → IsQueryLaid t m row six → IsPacket6 at_relay q six → IsOneQuery (query46 m row t.six) q.content
 query_read t m row octets six at_relay q taken laid is =
     let m6 = query46 m row t.six in
     let over = message6 t.six.src t.six.dst m6 in
@@ -143,7 +140,7 @@ identifier : (port rest : ℕ) → (port * 2 ^ 16 + rest % 2 ^ 16) / 2 ^ 16 ≡ 
 identifier port rest = omega arith
 
 pub query_flow : (t : Transfer) (m : Icmp4) (row : Row) (octets six : List ℕ) (at_relay : Bool) (q : Packet6) → t.taken.content ≡ Query4 m row
-    → IsTaken t octets → IsThere t six → IsPacket6 at_relay q six → ReadsFlow q.content Icmp (record { src = t.six.ports.src; dst = t.six.ports.src })
+    → IsTakenAs t octets → IsThere t six → IsPacket6 at_relay q six → ReadsFlow q.content Icmp (record { src = t.six.ports.src; dst = t.six.ports.src })
 query_flow t m row octets six at_relay q e taken there is =
     let one = query_read t m row octets six at_relay q taken (query_laid t m row octets six e taken there) is in
     let port : one.message.rest / 2 ^ 16 ≡ t.six.ports.src = ap (λ (n : ℕ). n / 2 ^ 16) one.read.rest ∙ identifier t.six.ports.src m.rest in
@@ -151,7 +148,7 @@ query_flow t m row octets six at_relay q e taken there is =
     (record { fault = refl; proto_is = refl; ports_are = ap (λ (n : ℕ). both_ports n) port; no_later = λ other later. cc })
 
 pub query_crosses : (t : Transfer) (m : Icmp4) (row : Row) (octets six four : List ℕ) (at_relay : Bool) (q : Packet6) → t.taken.content ≡ Query4 m row
-    → IsTaken t octets → IsThere t six → IsBack t at_relay q six four → ComesOf (crossing_of t) uncut four
+    → IsTakenAs t octets → IsThere t six → IsBack t at_relay q six four → ComesOf (crossing_of t) uncut four
 query_crosses t m row octets six four at_relay q e taken there back =
     let h = t.taken.head in
     let id = t.number % 2 ^ 16 in

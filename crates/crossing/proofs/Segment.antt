@@ -1,18 +1,13 @@
 -- TCP and UDP, in a whole packet and in the first fragment of one, there and back.
-use Rattle.std.proofs.Common.{◌≡◌, ◌≢◌, ℕ, ◌+◌, ◌-◌, ◌%◌, ◌^◌, ◌<◌, ◌≤◌, Bool, true, false, cond, not, List, length, Option, Some, None, refl, sym, ap, ◌∙◌, subst, arith}
+use Rattle.std.proofs.Common.{◌≡◌, ◌≢◌, ℕ, ◌+◌, ◌-◌, ◌%◌, ◌^◌, ◌<◌, ◌≤◌, Bool, true, false, cond, not, List, length, Some, refl, sym, ap, ◌∙◌, subst, arith}
 use Rattle.std.proofs.lemmas.Bool.{false≢true}
 use Rattle.octets.specs.Field.{word, in_quad, in_sixteen}
-use Rattle.octets.specs.declared.address.Addr4.{Addr4}
 use Rattle.octets.specs.declared.address.Addr6.{Addr6}
 use Rattle.octets.specs.declared.proto.Proto.{Proto}
 use Rattle.octets.specs.declared.proto.Proto.TheVariants.{Tcp, Udp, Icmp}
 use Rattle.inet_sum.specs.Sum.{words, adjusted, check_sum}
-use Rattle.ip4_packet.specs.declared.head.Head4.{Head4}
 use Rattle.ip4_packet.specs.Grammar.{payload_of4}
 use Rattle.ip4_packet.specs.Written.{written4}
-use Rattle.ip6_packet.specs.declared.head.Head6.{Head6}
-use Rattle.ip6_packet.specs.Fragment.{fragment_offset}
-use Rattle.ip6_packet.specs.Grammar.{payload_of6}
 use Rattle.ip6_packet.specs.Written.{written6}
 use Rattle.l4_headers.specs.declared.ports.Ports.{Ports}
 use Rattle.l4_headers.specs.declared.ports.L4.{L4}
@@ -29,16 +24,15 @@ use Rattle.xlat64.proofs.RightSums.{changed as right_over_ipv4}
 use Rattle.packets.specs.declared.packet4.Content4.{Content4}
 use Rattle.packets.specs.declared.packet4.Content4.TheVariants.{Segment as Segment4}
 use Rattle.packets.specs.declared.packet6.Content6.{Content6}
-use Rattle.packets.specs.declared.packet6.Content6.TheVariants.{Segment as Segment6, Later as Later6}
+use Rattle.packets.specs.declared.packet6.Content6.TheVariants.{Later as Later6}
 use Rattle.packets.specs.declared.packet6.Packet6.{Packet6}
 use Rattle.packets.specs.Packet4.{IsContent4, IsSegment4}
-use Rattle.packets.specs.Packet6.{IsContent6, IsPacket6}
+use Rattle.packets.specs.Packet6.{IsPacket6}
 use Rattle.packets.specs.Asked.{flow_of6}
 use Rattle.transit.specs.Passage46.{translation46}
 use Rattle.transit.specs.Passage64.{translation64}
-use Rattle.transit.proofs.Form.{low_offset}
 use Rattle.crossing.specs.Named.{IsSegment, IsPayload, uncut}
-use Rattle.crossing.specs.Transfer.{Transfer, FitsPorts, IsTaken, IsThere, IsBack, ComesOf, crossing_of, content_with}
+use Rattle.crossing.specs.Transfer.{Transfer, FitsPorts, IsTakenAs, IsThere, IsBack, ComesOf, crossing_of, content_with}
 use Rattle.crossing.proofs.Heads.{payload_len_is, some_same, offset_there, more_there, head_there, head_back, IsLaid, laid_inside, between, named_uncut}
 use Rattle.crossing.proofs.Contents.{IsFlowNumber, flow_number, one_segment}
 use Rattle.crossing.proofs.Sums.{written-twice, written_fits, udp_fits, udp_some}
@@ -195,7 +189,7 @@ pub record IsSegmentLaid (t : Transfer) (proto : Proto) (six : List ℕ) : Type 
   pub number : IsFlowNumber t.taken.head.proto proto
   pub laid : IsLaid t (payload_there t proto) six
 
-pub segment_laid : (t : Transfer) (proto : Proto) (l4 : L4) (octets six : List ℕ) → t.taken.content ≡ Segment4 proto l4 → IsTaken t octets → IsThere t six → IsSegmentLaid t proto six
+pub segment_laid : (t : Transfer) (proto : Proto) (l4 : L4) (octets six : List ℕ) → t.taken.content ≡ Segment4 proto l4 → IsTakenAs t octets → IsThere t six → IsSegmentLaid t proto six
 segment_laid t proto l4 octets six e taken there =
     let h = t.taken.head in
     let found : IsSegment4 h (payload_of4 h octets) proto l4 = subst (λ (c : Content4). IsContent4 h (payload_of4 h octets) c) e taken.is.content in
@@ -230,7 +224,7 @@ pub record ReadsFlow (q : Content6) (proto : Proto) (ports : Ports) : Type 0 whe
   pub no_later : (other : Proto) → q ≡ Later6 other → ⊥
 
 pub segment_flow : (t : Transfer) (proto : Proto) (l4 : L4) (octets six : List ℕ) (at_relay : Bool) (q : Packet6) → t.taken.content ≡ Segment4 proto l4
-    → IsTaken t octets → IsThere t six → IsPacket6 at_relay q six → ReadsFlow q.content proto t.six.ports
+    → IsTakenAs t octets → IsThere t six → IsPacket6 at_relay q six → ReadsFlow q.content proto t.six.ports
 segment_flow t proto l4 octets six at_relay q e taken there is =
     let h = t.taken.head in
     let laid = segment_laid t proto l4 octets six e taken there in
@@ -240,7 +234,7 @@ segment_flow t proto l4 octets six at_relay q e taken there is =
     (record { fault = refl; proto_is = refl; ports_are = ap (λ (l : L4). l.ports) one.l4_is ∙ (again_of t proto laid.carries).ports_are; no_later = λ other later. cc })
 
 pub segment_crosses : (t : Transfer) (proto : Proto) (l4 : L4) (octets six four : List ℕ) (at_relay : Bool) (q : Packet6) → t.taken.content ≡ Segment4 proto l4
-    → IsTaken t octets → IsThere t six → IsBack t at_relay q six four → ComesOf (crossing_of t) uncut four
+    → IsTakenAs t octets → IsThere t six → IsBack t at_relay q six four → ComesOf (crossing_of t) uncut four
 segment_crosses t proto l4 octets six four at_relay q e taken there back =
     let h = t.taken.head in
     let id = t.number % 2 ^ 16 in

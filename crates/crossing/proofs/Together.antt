@@ -1,5 +1,5 @@
 -- The pieces of a packet that is cut, all of them together.
-use Rattle.std.proofs.Common.{◌≡◌, ◌⊎◌, ℕ, zero, suc, ◌+◌, ◌*◌, ◌-◌, ◌<◌, ◌≤◌, Bool, List, [], ◌∷◌, ◌++◌, length, take, drop, map, min, Option, Some, None, inl, inr, refl, sym, ap, ◌∙◌, subst, arith}
+use Rattle.std.proofs.Common.{◌≡◌, ◌⊎◌, ℕ, suc, ◌+◌, ◌*◌, ◌-◌, ◌<◌, ◌≤◌, Bool, List, [], ◌∷◌, ◌++◌, length, drop, map, min, Option, Some, None, inl, inr, refl, sym, ap, ◌∙◌, subst, arith}
 use Rattle.std.specs.Prelude.{slice_get}
 use Rattle.std.proofs.Math.Nat.{suc-mul}
 use Rattle.std.proofs.lemmas.Bool.{cases_lt}
@@ -11,11 +11,11 @@ use Rattle.ip6_packet.specs.declared.head.Head6.{Head6}
 use Rattle.packet_faults.specs.Cut.{Cutting, AreCut, IsCuttable, cut_for, piece, step_of}
 use Rattle.packets.specs.declared.packet6.Packet6.{Packet6}
 use Rattle.crossing.specs.Named.{Sent, Named, piece_at}
-use Rattle.crossing.specs.Pieces.{joined, AreNamedFrom, AreNamed, IsCutInto, AreBack, ComeTogether}
-use Rattle.crossing.specs.Transfer.{Transfer, IsTaken, IsBack, crossing_of}
-use Rattle.crossing.proofs.Cut.{cut_of, step_least, this_cut}
+use Rattle.crossing.specs.Pieces.{joined, AreNamedFrom, IsCutInto, AreBack, ComeTogether}
+use Rattle.crossing.specs.Transfer.{Transfer, IsTakenAs, IsBack, crossing_of}
+use Rattle.crossing.proofs.Cut.{cut_of, this_cut}
 use Rattle.crossing.proofs.Piece.{length-part}
-use Rattle.crossing.proofs.Pieces.{ComesOfPiece, IsCutThere, cut_there}
+use Rattle.crossing.proofs.Pieces.{IsCutThere, cut_there}
 
 -- the pieces from a number on
 record AreFrom (cut : Cutting) (k : ℕ) (pieces : List Parcel) : Type 0 where
@@ -117,7 +117,7 @@ comes_from t six over whole h payload k at_relay (p ∷ pieces) (four ∷ fours)
           ]),
         )
 
-pub comes_together : (t : Transfer) (octets : List ℕ) (at_relay : Bool) (pieces : List Parcel) (fours : List (List ℕ)) → IsTaken t octets → t.taken.head.id < 65536 → IsCutInto t pieces → AreBack t at_relay pieces fours
+pub comes_together : (t : Transfer) (octets : List ℕ) (at_relay : Bool) (pieces : List Parcel) (fours : List (List ℕ)) → IsTakenAs t octets → t.taken.head.id < 65536 → IsCutInto t pieces → AreBack t at_relay pieces fours
     → ComeTogether (crossing_of t) fours
 comes_together t octets at_relay pieces fours taken small is back =
     let there = cut_there t octets is.six is.flows taken small is.there is.ports in

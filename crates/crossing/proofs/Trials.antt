@@ -1,5 +1,5 @@
 -- The definitions, computed on ICMP errors about a UDP packet of the home to 198.51.100.7:53.
-use Rattle.std.proofs.Common.{◌≡◌, ℕ, ◌*◌, ◌^◌, false, List, [], ◌∷◌, Some, refl}
+use Rattle.std.proofs.Common.{◌≡◌, ◌*◌, ◌^◌, false, [], ◌∷◌, Some, refl}
 use Rattle.octets.specs.declared.proto.Proto.TheVariants.{Udp}
 use Rattle.octets.specs.declared.address.Addr4.{Addr4}
 use Rattle.octets.specs.declared.mtus.Mtus.{Mtus}

@@ -10,11 +10,8 @@ use Rattle.packets.specs.Packet6.{IsPacket6}
 use Rattle.packets.specs.declared.packet4.Content4.{Content4}
 use Rattle.packets.specs.declared.packet4.Content4.TheVariants.{Segment, Later, Query, Error}
 use Rattle.packets.specs.declared.packet6.Packet6.{Packet6}
-use Rattle.icmp_messages.specs.declared.icmp4.Icmp4.{Icmp4}
-use Rattle.icmp_messages.specs.declared.inner4.Inner4.{Inner4}
-use Rattle.icmp_xlat.specs.declared.table.Row.{Row}
 use Rattle.crossing.specs.Named.{uncut}
-use Rattle.crossing.specs.Transfer.{Transfer, IsTaken, IsThere, IsBack, ComesOf, crossing_of}
+use Rattle.crossing.specs.Transfer.{Transfer, IsTakenAs, IsThere, IsBack, ComesOf, crossing_of}
 use Rattle.crossing.proofs.Heads.{IsLaid, laid_reads}
 use Rattle.crossing.proofs.Segment.{ReadsFlow, segment_laid, segment_flow, segment_crosses}
 use Rattle.crossing.proofs.Later.{later_laid, later_content, later_crosses}
@@ -22,7 +19,7 @@ use Rattle.crossing.proofs.Error.{ReadsError, error_laid, error_flow, error_cros
 use Rattle.crossing.proofs.Query.{query_laid, query_flow, query_crosses}
 
 pub crosses : (t : Transfer) (octets six four : List ℕ) (at_relay : Bool) (q : Packet6)
-    → IsTaken t octets → IsThere t six → IsBack t at_relay q six four → ComesOf (crossing_of t) uncut four
+    → IsTakenAs t octets → IsThere t six → IsBack t at_relay q six four → ComesOf (crossing_of t) uncut four
 crosses t octets six four at_relay q taken there back = by t.taken.content refl
   where
     by : (c : Content4) → t.taken.content ≡ c → ComesOf (crossing_of t) uncut four
@@ -38,13 +35,13 @@ pub record ReadsEnds (t : Transfer) (q : Packet6) : Type 0 where
   pub src : q.head.src ≡ t.six.src
   pub dst : q.head.dst ≡ t.six.dst
 
-ends_of : (t : Transfer) (octets over six : List ℕ) (at_relay : Bool) (q : Packet6) → IsTaken t octets → IsLaid t over six → IsPacket6 at_relay q six → ReadsEnds t q
+ends_of : (t : Transfer) (octets over six : List ℕ) (at_relay : Bool) (q : Packet6) → IsTakenAs t octets → IsLaid t over six → IsPacket6 at_relay q six → ReadsEnds t q
 ends_of t octets over six at_relay q taken laid is =
     let read = laid_reads t octets over six at_relay q taken laid is in
     record { src = ap (λ (h : Head6). h.src) read.head; dst = ap (λ (h : Head6). h.dst) read.head }
 
 pub reads_ends : (t : Transfer) (octets six : List ℕ) (at_relay : Bool) (q : Packet6)
-    → IsTaken t octets → IsThere t six → IsPacket6 at_relay q six → ReadsEnds t q
+    → IsTakenAs t octets → IsThere t six → IsPacket6 at_relay q six → ReadsEnds t q
 reads_ends t octets six at_relay q taken there is = by t.taken.content refl
   where
     by : (c : Content4) → t.taken.content ≡ c → ReadsEnds t q
@@ -62,7 +59,7 @@ FlowIs (Query m row) six q = ReadsFlow q Icmp (record { src = six.ports.src; dst
 FlowIs (Error m row inner) six q = ReadsError inner six q
 
 pub reads_flow : (t : Transfer) (octets six : List ℕ) (at_relay : Bool) (q : Packet6)
-    → IsTaken t octets → IsThere t six → IsPacket6 at_relay q six → FlowIs t.taken.content t.six q.content
+    → IsTakenAs t octets → IsThere t six → IsPacket6 at_relay q six → FlowIs t.taken.content t.six q.content
 reads_flow t octets six at_relay q taken there is = by t.taken.content refl
   where
     by : (c : Content4) → t.taken.content ≡ c → FlowIs c t.six q.content

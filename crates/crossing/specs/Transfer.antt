@@ -1,6 +1,6 @@
 -- A packet that one node translates to IPv6 and a second one translates back, between the ends that each of them gives it,
 -- and in what it then may differ.
-use Rattle.std.specs.Prelude.{◌≡◌, ℕ, ◌+◌, ◌*◌, ◌%◌, ◌^◌, ◌<◌, ◌≤◌, Bool, false, true, List, slice_get, Some}
+use Rattle.std.specs.Prelude.{◌≡◌, ℕ, ◌*◌, ◌%◌, ◌^◌, ◌<◌, Bool, false, true, List, slice_get, Some}
 use Rattle.octets.specs.declared.address.Addr4.{Addr4}
 use Rattle.octets.specs.declared.address.Addr6.{Addr6}
 use Rattle.octets.specs.declared.mtus.Mtus.{Mtus}
@@ -73,7 +73,7 @@ FitsContent (Error m row inner) = FitsHead inner.head
 FitsContent _ = Unit {0}
 
 -- the octets are the packet that was taken, and numbers fit their fields
-pub record IsTaken (t : Transfer) (octets : List ℕ) : Type 0 where
+pub record IsTakenAs (t : Transfer) (octets : List ℕ) : Type 0 where
   pub is : IsPacket4 t.taken octets
   pub payload : t.payload ≡ payload_of4 t.taken.head octets
   pub fits : FitsHead t.taken.head

@@ -5,7 +5,7 @@ ghost use Rattle.octets.specs.declared.parcel.Parcel.{Parcel};
 ghost use Rattle.packets.specs.declared.packet6.Packet6.{Packet6};
 ghost use Rattle.crossing.specs.Named.{Portion};
 ghost use Rattle.crossing.specs.Pieces.{IsCutInto, AreBack, ComeTogether};
-ghost use Rattle.crossing.specs.Transfer.{Transfer, IsTaken, IsSentThere, IsBack, ComesOf, crossing_of};
+ghost use Rattle.crossing.specs.Transfer.{Transfer, IsTakenAs, IsSentThere, IsBack, ComesOf, crossing_of};
 
 /// One node translates an IPv4 packet that it took to IPv6, and a second one takes these octets, or one of the pieces into which
 /// they were cut, and translates them back. Then nothing but the named header changes stands between what it sends and the
@@ -13,7 +13,7 @@ ghost use Rattle.crossing.specs.Transfer.{Transfer, IsTaken, IsSentThere, IsBack
 /// request or reply, or an ICMP error.
 pub fn packets_come_back_with_the_named_changes()
     ensures { (t : Transfer) (octets six four : List ℕ) (portion : Portion) (at_relay : Bool) (q : Packet6)
-        → IsTaken t octets
+        → IsTakenAs t octets
         → IsSentThere t portion six
         → IsBack t at_relay q six four
         → ComesOf (crossing_of t) portion four }
@@ -23,7 +23,7 @@ pub fn packets_come_back_with_the_named_changes()
 /// at its place.
 pub fn pieces_come_back_as_the_whole_payload()
     ensures { (t : Transfer) (octets : List ℕ) (at_relay : Bool) (pieces : List Parcel) (fours : List (List ℕ))
-        → IsTaken t octets
+        → IsTakenAs t octets
         → t.taken.head.id < 65536
         → IsCutInto t pieces
         → AreBack t at_relay pieces fours

@@ -32,8 +32,8 @@ abbrev pub read_packet : Taken → List ℕ → Packet4
 read_packet t octets = record { head = t.head; content = Segment t.proto (l4_of t.proto (payload_of4 t.head octets)) }
 
 -- its crossing, with these addresses and ports in place of its own
-abbrev pub crossing_with : Edge → ℕ → Taken → List ℕ → Packet4 → Crossing
-crossing_with e number t octets replaced = record {
+abbrev pub record_crossing : Edge → ℕ → Taken → List ℕ → Packet4 → Crossing
+record_crossing e number t octets replaced = record {
   taken = read_packet t octets;
   payload = payload_of4 t.head octets;
   replaced = replaced;
@@ -47,7 +47,7 @@ pub record IsNamed (e : Edge) (number : ℕ) (t : Taken) (octets core : List ℕ
   pub by_answer : nat44 (read_packet t octets) (answer_of e t) ≡ Some replaced
   pub whole : List ℕ
   pub sent : Sent
-  pub named : Named (crossing_with e number t octets replaced) uncut whole sent
+  pub named : Named (record_crossing e number t octets replaced) uncut whole sent
   pub arrives : core ≡ sent.octets
 
 -- The record of this number, as it is on the access network and in the core. On the access network it goes from the

@@ -1,6 +1,6 @@
 -- Which IPv4 address stands behind an IPv6 address that a node accepts, and behind those that nodes send to and from.
-use Rattle.std.proofs.Common.{◌≡◌, ◌⊎◌, ℕ, suc, ◌+◌, ◌-◌, ◌/◌, ◌^◌, ◌<◌, ◌≤◌, Bool, true, false, cond, List, [], ◌∷◌, Option, Some, None, inl, inr, refl, sym, ap, ◌∙◌, subst, arith, IsTrue}
-use Rattle.std.specs.Prelude.{◌==◌, ◌&&◌, ◌||◌, nat_le, nat_lt, unwrap_or, if◌then◌else◌}
+use Rattle.std.proofs.Common.{◌≡◌, ◌⊎◌, ℕ, suc, ◌+◌, ◌-◌, ◌/◌, ◌^◌, ◌<◌, ◌≤◌, Bool, true, false, cond, List, [], ◌∷◌, Option, Some, None, inl, inr, refl, sym, ap, ◌∙◌, subst, arith}
+use Rattle.std.specs.Prelude.{◌==◌, ◌&&◌, ◌||◌, nat_le, nat_lt, unwrap_or}
 use Rattle.std.specs.Option.{option_map_or, option_or}
 use Rattle.std.specs.List.{All, filter}
 use Rattle.std.proofs.Math.Bool.{or-true}
@@ -19,11 +19,10 @@ use Rattle.map_rules.specs.Rule.{psid_len, has_address, rule_address, source_of,
 use Rattle.map_rules.proofs.Embedded.{embedded-inside}
 use Rattle.map_rules.proofs.Rules.{source-addr, edge-has, edge-psid-small, source-ce6, address-inside}
 use Rattle.map_rules.proofs.Sources.{extract_of-found, extract_of-exactly}
-use Rattle.rule_book.specs.declared.view.FarOf.{FarOf}
 use Rattle.rule_book.specs.declared.view.FarOf.TheVariants.{Addr, Spoofed, NotDefault}
 use Rattle.rule_book.specs.Far.{has_addr6, far_of, far_by_rule, far_under, far_with, far_embedded}
 use Rattle.rule_book.specs.Holder.{Holder, has_edge, holder_under, holder_of}
-use Rattle.rule_book.specs.Overlap.{begins6, overlaps6, Overlaps6}
+use Rattle.rule_book.specs.Overlap.{begins6, Overlaps6}
 use Rattle.rule_book.specs.Owner.{owner_of, forward_of}
 use Rattle.nat_model.specs.Remote.{reached}
 use Rattle.nat_model.specs.State.{Generation}

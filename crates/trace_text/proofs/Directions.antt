@@ -1,14 +1,12 @@
 -- The three directions of a crossing.
-use Rattle.std.proofs.Common.{◌≡◌, ℕ, ◌%◌, ◌^◌, ◌<◌, ◌⊎◌, Bool, true, false, cond, not, ◌||◌, ◌&&◌, List, [], ◌∷◌, inl, inr, Option, Some, None, refl, sym, ap, ◌∙◌, subst, arith}
-use Rattle.std.specs.Prelude.{Result, Ok, Err}
+use Rattle.std.proofs.Common.{◌≡◌, ℕ, ◌^◌, ◌<◌, Bool, true, false, cond, not, ◌||◌, ◌&&◌, List, [], ◌∷◌, inl, inr, Option, Some, None, refl, sym, ap, ◌∙◌, subst}
+use Rattle.std.specs.Prelude.{Ok}
 use Rattle.std.proofs.lemmas.Bool.{false≢true}
 use Rattle.octets.specs.declared.address.Addr4.{Addr4}
 use Rattle.octets.specs.declared.address.Addr6.{Addr6}
-use Rattle.octets.specs.declared.cause.Cause.{Cause}
 use Rattle.octets.specs.declared.mtus.Mtus.{Mtus}
 use Rattle.octets.specs.declared.parcel.Parcel.{Parcel}
 use Rattle.octets.specs.declared.proto.Proto.{Proto}
-use Rattle.ip4_packet.specs.declared.head.Head4.{Head4}
 use Rattle.ip4_packet.specs.Grammar.{payload_of4}
 use Rattle.ip6_packet.specs.Grammar.{payload_of6}
 use Rattle.l4_headers.specs.declared.ports.Ports.{Ports}
@@ -42,15 +40,15 @@ use Rattle.relay_node.specs.FromAccess.{ends64}
 use Rattle.relay_node.specs.FromIpv4.{ends46, far_end}
 use Rattle.crossing.specs.Nat44.{sent_from, received_at, content_from, content_to}
 use Rattle.crossing.specs.Named.{Portion, uncut, piece_at}
-use Rattle.crossing.specs.Transfer.{Transfer, IsTaken, IsThere, IsSentThere, IsBack, ComesOf, FitsEnds, packet_with, content_with}
+use Rattle.crossing.specs.Transfer.{Transfer, IsTakenAs, IsThere, IsSentThere, IsBack, ComesOf, FitsEnds, packet_with, content_with}
 use Rattle.crossing.proofs.Error.{ReadsError}
 use Rattle.crossing.proofs.Over.{Seen, seen, over_crosses}
 use Rattle.crossing.proofs.Uncut.{FlowIs}
-use Rattle.trace_text.specs.Answered.{Step, AreRulesOf, AnsweredOut, AnsweredIn, rules_at}
+use Rattle.trace_text.specs.Answered.{Step, AreRulesOf, AnsweredOut, AnsweredIn, rules_of_step}
 use Rattle.trace_text.specs.Behind.{ipv4_behind}
-use Rattle.trace_text.specs.Hops.{IsTaken4, FitsAnswer, EdgeSends, EdgeReceives, IsEmitted, RelaySends, RelayReceives}
-use Rattle.trace_text.specs.Crossings.{Passed, Domain, id_of, IsRelayOf, ToRelay, FromRelay, End, EdgeToEdge, IsOneStep, crossing_with}
-use Rattle.trace_text.proofs.Machine.{IsWayOut, IsWayIn, way_out, way_in}
+use Rattle.trace_text.specs.Hops.{IsTaken4, FitsAnswer, EdgeSends, EdgeReceives, IsEmitted}
+use Rattle.trace_text.specs.Crossings.{Passed, Setting, id_of, ToRelay, FromRelay, EdgeAnswer, EdgeToEdge, IsOneStep, crossing_with}
+use Rattle.trace_text.proofs.Machine.{way_out, way_in}
 use Rattle.trace_text.proofs.Addresses.{accepted, holder_holds, embedded_holds, extracted_holds, reached_holds, one_behind}
 use Rattle.trace_text.proofs.Fits.{head_fits, id_fits, src_fits, dst_fits, ports_fit, content_fits, FitsWithin, within}
 use Rattle.trace_text.proofs.Ports.{near_fits, Replaces, PortsAre, InnerOut, InnerIn, InnerBoth, source_given, destination_given, both_given, read_near, read_far}
@@ -85,15 +83,15 @@ record HoldsOut (dmr : Dmr) (from dst : Addr4) (src6 dst6 : Addr6) : Type 0 wher
   source : ipv4_behind dmr src6.0 ≡ Some from.0
   destination : ipv4_behind dmr dst6.0 ≡ Some dst.0
 
-holds_out : (dmr : Dmr) (step : Step) (dst : Addr4) (from : Addr4) (port : ℕ) (src6 dst6 : Addr6) (freed : List Parcel) → AreRulesOf dmr (rules_at step) → dst.0 < 2 ^ 32
+holds_out : (dmr : Dmr) (step : Step) (dst : Addr4) (from : Addr4) (port : ℕ) (src6 dst6 : Addr6) (freed : List Parcel) → AreRulesOf dmr (rules_of_step step) → dst.0 < 2 ^ 32
     → AnsweredOut step dst (Out from port src6 dst6 freed) → HoldsOut dmr from dst src6 dst6
 holds_out dmr step dst from port src6 dst6 freed rules fits answered =
     let way = way_out step.prefix step.state step.moment answered.fault answered.proto answered.near (record { addr = dst; port = answered.port }) answered.flags answered.part freed from port src6 dst6 answered.is in
     let h = way.0 in
-    let own = holder_holds (rules_at step).rules dmr step.prefix h rules.fit rules.valid.apart_dmr way.1 in
+    let own = holder_holds (rules_of_step step).rules dmr step.prefix h rules.fit rules.valid.apart_dmr way.1 in
     record {
       source = ap (λ (a : Addr6). ipv4_behind dmr a.0) way.2.src_is ∙ own.0 ∙ ap (λ (a : Addr4). some_number a.0) (sym way.2.from_is);
-      destination = ap (λ (a : Addr6). ipv4_behind dmr a.0) way.2.dst_is ∙ reached_holds (rules_at step) dmr dst.0 way.2.port rules fits;
+      destination = ap (λ (a : Addr6). ipv4_behind dmr a.0) way.2.dst_is ∙ reached_holds (rules_of_step step) dmr dst.0 way.2.port rules fits;
     }
   where
     some_number : ℕ → Option ℕ
@@ -110,18 +108,18 @@ replaced_is p ends src dst content is_src is_dst is_content =
 
 -- ---- a crossing as a transfer
 
-abbrev transfer : Domain → Passed → Ends Addr6 → Ends Addr4 → Transfer
-transfer domain c six four = record {
+abbrev transfer : Setting → Passed → Ends Addr6 → Ends Addr4 → Transfer
+transfer setting c six four = record {
   taken = c.taken;
   payload = payload_of4 c.taken.head c.octets;
   six = six;
   four = four;
-  mtus = domain.mtus;
-  number = domain.number;
+  mtus = setting.mtus;
+  number = setting.number;
 }
 
-taken_as : (domain : Domain) (c : Passed) (six : Ends Addr6) (four : Ends Addr4) → IsTaken4 c.taken c.octets → FitsEnds six → IsTaken (transfer domain c six four) c.octets
-taken_as domain c six four taken fits = record { is = taken.is; payload = refl; fits = head_fits c.taken.head c.octets taken.are taken.is.is.fields; inner = content_fits c.taken.content c.taken.head.dst (within c.taken c.octets taken); six = fits }
+taken_as : (setting : Setting) (c : Passed) (six : Ends Addr6) (four : Ends Addr4) → IsTaken4 c.taken c.octets → FitsEnds six → IsTakenAs (transfer setting c six four) c.octets
+taken_as setting c six four taken fits = record { is = taken.is; payload = refl; fits = head_fits c.taken.head c.octets taken.are taken.is.is.fields; inner = content_fits c.taken.content c.taken.head.dst (within c.taken c.octets taken); six = fits }
 
 back_with : (mtus domain_mtus : Mtus) (id domain_id : ℕ) (q : Packet6) (six four : List ℕ) (ends : Ends Addr4) → mtus ≡ domain_mtus → id ≡ domain_id
     → translation64 mtus q.head (payload_of6 q.head six) ends id q.content ≡ Some four → translation64 domain_mtus q.head (payload_of6 q.head six) ends domain_id q.content ≡ Some four
@@ -161,27 +159,27 @@ later_back mtus id q six four src dst a b c d ports others proto later is =
     subst (λ (x : Content6). translation64 mtus q.head (payload_of6 q.head six) (record { src = src; dst = dst; inner_src = c; inner_dst = d; ports = others }) id x ≡ Some four) (sym later) plain
 
 -- what the first node did, between these ends over IPv6
-record IsThrough (domain : Domain) (c : Passed) (six : Ends Addr6) : Type 0 where
+record IsThrough (setting : Setting) (c : Passed) (six : Ends Addr6) : Type 0 where
   taken : IsTaken4 c.taken c.octets
   fits : FitsEnds six
-  passage : IsPassage46 domain.mtus c.taken (payload_of4 c.taken.head c.octets) six c.passage
-  emitted : IsEmitted domain.mtus c.passage c.portion c.six
+  passage : IsPassage46 setting.mtus c.taken (payload_of4 c.taken.head c.octets) six c.passage
+  emitted : IsEmitted setting.mtus c.passage c.portion c.six
 
-over : (domain : Domain) (c : Passed) (six : Ends Addr6) (four : Ends Addr4) → IsThrough domain c six → IsSentThere (transfer domain c six four) c.portion c.six
-over domain c six four is = sent_there (transfer domain c six four) c.passage c.portion c.six (id_fits c.taken.head c.octets is.taken.are is.taken.is.is.fields) is.passage is.emitted
+over : (setting : Setting) (c : Passed) (six : Ends Addr6) (four : Ends Addr4) → IsThrough setting c six → IsSentThere (transfer setting c six four) c.portion c.six
+over setting c six four is = sent_there (transfer setting c six four) c.passage c.portion c.six (id_fits c.taken.head c.octets is.taken.are is.taken.is.is.fields) is.passage is.emitted
 
-sees : (domain : Domain) (c : Passed) (six : Ends Addr6) (four : Ends Addr4) (at_relay : Bool) → IsThrough domain c six → IsPacket6 at_relay c.read c.six → Seen (transfer domain c six four) c.read
-sees domain c six four at_relay is arrives = seen (transfer domain c six four) c.octets c.six c.portion at_relay c.read (taken_as domain c six four is.taken is.fits) (over domain c six four is) arrives
+sees : (setting : Setting) (c : Passed) (six : Ends Addr6) (four : Ends Addr4) (at_relay : Bool) → IsThrough setting c six → IsPacket6 at_relay c.read c.six → Seen (transfer setting c six four) c.read
+sees setting c six four at_relay is arrives = seen (transfer setting c six four) c.octets c.six c.portion at_relay c.read (taken_as setting c six four is.taken is.fits) (over setting c six four is) arrives
 
 -- what the second node did, between these ends over IPv4
-comes_of : (domain : Domain) (c : Passed) (six : Ends Addr6) (four : Ends Addr4) (at_relay : Bool) (src dst : Addr4) (content : Content4) → IsThrough domain c six → IsPacket6 at_relay c.read c.six → 1 < c.read.head.hop
-    → translation64 domain.mtus c.read.head (payload_of6 c.read.head c.six) four (id_of domain) c.read.content ≡ Some c.four
-    → four.src ≡ src → four.dst ≡ dst → Replaces c.taken.content four content → ComesOf (crossing_with domain c (record { head = record c.taken.head { src = src; dst = dst }; content = content })) c.portion c.four
-comes_of domain c six four at_relay src dst content is arrives lasts makes is_src is_dst replaces =
-    let t = transfer domain c six four in
+comes_of : (setting : Setting) (c : Passed) (six : Ends Addr6) (four : Ends Addr4) (at_relay : Bool) (src dst : Addr4) (content : Content4) → IsThrough setting c six → IsPacket6 at_relay c.read c.six → 1 < c.read.head.hop
+    → translation64 setting.mtus c.read.head (payload_of6 c.read.head c.six) four (id_of setting) c.read.content ≡ Some c.four
+    → four.src ≡ src → four.dst ≡ dst → Replaces c.taken.content four content → ComesOf (crossing_with setting c (record { head = record c.taken.head { src = src; dst = dst }; content = content })) c.portion c.four
+comes_of setting c six four at_relay src dst content is arrives lasts makes is_src is_dst replaces =
+    let t = transfer setting c six four in
     let back : IsBack t at_relay c.read c.six c.four = record { is = arrives; lasts = lasts; ports = replaces.fits; back = makes } in
-    let comes = over_crosses t c.octets c.six c.four c.portion at_relay c.read (taken_as domain c six four is.taken is.fits) (over domain c six four is) back in
-    subst (λ (r : Packet4). ComesOf (crossing_with domain c r) c.portion c.four) (replaced_is c.taken four src dst content is_src is_dst replaces.is) comes
+    let comes = over_crosses t c.octets c.six c.four c.portion at_relay c.read (taken_as setting c six four is.taken is.fits) (over setting c six four is) back in
+    subst (λ (r : Packet4). ComesOf (crossing_with setting c r) c.portion c.four) (replaced_is c.taken four src dst content is_src is_dst replaces.is) comes
 
 -- ---- the ends of what an error embeds
 
@@ -250,9 +248,9 @@ inner_both dmr (Error m row inner) from peer to six ends q holds flow told one o
 
 -- ---- from an edge to the relay
 
-through_out : (domain : Domain) (c : Passed) (from : Addr4) (port : ℕ) (src6 dst6 : Addr6) (freed : List Parcel) → IsTaken4 c.taken c.octets → FitsAnswer (Out from port src6 dst6 freed)
-    → EdgeSends domain.mtus (Out from port src6 dst6 freed) c.taken c.octets c.passage → IsEmitted domain.mtus c.passage c.portion c.six → IsThrough domain c (ends_out (flow_of4 c.taken.content) port src6 dst6)
-through_out domain c from port src6 dst6 freed taken fits sent emitted =
+through_out : (setting : Setting) (c : Passed) (from : Addr4) (port : ℕ) (src6 dst6 : Addr6) (freed : List Parcel) → IsTaken4 c.taken c.octets → FitsAnswer (Out from port src6 dst6 freed)
+    → EdgeSends setting.mtus (Out from port src6 dst6 freed) c.taken c.octets c.passage → IsEmitted setting.mtus c.passage c.portion c.six → IsThrough setting c (ends_out (flow_of4 c.taken.content) port src6 dst6)
+through_out setting c from port src6 dst6 freed taken fits sent emitted =
     let flow = flow_of4 c.taken.content in
     record {
       taken = taken;
@@ -261,8 +259,8 @@ through_out domain c from port src6 dst6 freed taken fits sent emitted =
       emitted = emitted;
     }
 
-pub to_relay : (domain : Domain) (step : Step) (answer : Answer) (relay : Relay) (c : Passed) → ToRelay domain step answer relay c → IsOneStep domain (answer ∷ []) c
-to_relay domain step (Out from port src6 dst6 freed) relay c is =
+pub to_relay : (setting : Setting) (step : Step) (answer : Answer) (relay : Relay) (c : Passed) → ToRelay setting step answer relay c → IsOneStep setting (answer ∷ []) c
+to_relay setting step (Out from port src6 dst6 freed) relay c is =
     let p = c.taken in
     let q = c.read in
     let got = is.received in
@@ -271,52 +269,52 @@ to_relay domain step (Out from port src6 dst6 freed) relay c is =
     let plain = ends64 got.src got.dst got.ports in
     let given : Ends Addr4 = record { src = got.src; dst = got.dst; inner_src = near_inner p.content from; inner_dst = from; ports = six.ports } in
     let inside = within p c.octets is.taken in
-    let through = through_out domain c from port src6 dst6 freed is.taken is.fits is.sent is.emitted in
-    let saw = sees domain c six plain true through is.arrives in
+    let through = through_out setting c from port src6 dst6 freed is.taken is.fits is.sent is.emitted in
+    let saw = sees setting c six plain true through is.arrives in
     let are = ports_fit p c.octets is.taken in
-    let holds = holds_out domain.dmr step p.head.dst from port src6 dst6 freed is.rules (dst_fits p.head c.octets is.taken.are is.taken.is.is.fields) is.answered in
-    let source : ipv4_behind domain.dmr src6.0 ≡ Some got.src.0 = subst (λ (d : Dmr). ipv4_behind d src6.0 ≡ Some got.src.0) is.relay_is.dmr (subst (λ (a : Addr6). ipv4_behind relay.dmr a.0 ≡ Some got.src.0) saw.ends.src (sourced relay q.head.src (source_port (flow_of6 q.content).fault got.ports) got.src got.source)) in
-    let destination : ipv4_behind domain.dmr dst6.0 ≡ Some got.dst.0 = subst (λ (d : Dmr). ipv4_behind d dst6.0 ≡ Some got.dst.0) is.relay_is.dmr (subst (λ (a : Addr6). ipv4_behind relay.dmr a.0 ≡ Some got.dst.0) saw.ends.dst (extracted_holds relay.dmr q.head.dst.0 got.dst.0 got.destination)) in
-    let src = one_behind domain.dmr src6.0 got.src from source holds.source in
-    let dst = one_behind domain.dmr dst6.0 got.dst p.head.dst destination holds.destination in
-    let makes = back_with relay.params.mtus domain.mtus relay.id (id_of domain) q c.six c.four plain is.relay_is.mtus is.relay_is.id got.is.1 in
+    let holds = holds_out setting.dmr step p.head.dst from port src6 dst6 freed is.rules (dst_fits p.head c.octets is.taken.are is.taken.is.is.fields) is.answered in
+    let source : ipv4_behind setting.dmr src6.0 ≡ Some got.src.0 = subst (λ (d : Dmr). ipv4_behind d src6.0 ≡ Some got.src.0) is.relay_is.dmr (subst (λ (a : Addr6). ipv4_behind relay.dmr a.0 ≡ Some got.src.0) saw.ends.src (sourced relay q.head.src (source_port (flow_of6 q.content).fault got.ports) got.src got.source)) in
+    let destination : ipv4_behind setting.dmr dst6.0 ≡ Some got.dst.0 = subst (λ (d : Dmr). ipv4_behind d dst6.0 ≡ Some got.dst.0) is.relay_is.dmr (subst (λ (a : Addr6). ipv4_behind relay.dmr a.0 ≡ Some got.dst.0) saw.ends.dst (extracted_holds relay.dmr q.head.dst.0 got.dst.0 got.destination)) in
+    let src = one_behind setting.dmr src6.0 got.src from source holds.source in
+    let dst = one_behind setting.dmr dst6.0 got.dst p.head.dst destination holds.destination in
+    let makes = back_with relay.params.mtus setting.mtus relay.id (id_of setting) q c.six c.four plain is.relay_is.mtus is.relay_is.id got.is.1 in
     record {
       replaced = sent_from from port p;
       by_answers = refl;
       comes = elim saw.flow [
-        | inl flow ↦ comes_of domain c six plain true from p.head.dst (content_from from port p.content) through is.arrives got.is.0 makes src dst
+        | inl flow ↦ comes_of setting c six plain true from p.head.dst (content_from from port p.content) through is.arrives got.is.0 makes src dst
             (source_given p.content port from plain is.fits.0 are (read_near p.content port src6 dst6 q.content got.ports flow got.flow) (inner_out p.content plain from p.head.dst inside dst src))
-        | inr later ↦ comes_of domain c six given true from p.head.dst (content_from from port p.content) through is.arrives got.is.0
-            (later_back domain.mtus (id_of domain) q c.six c.four got.src got.dst got.dst got.src given.inner_src given.inner_dst got.ports six.ports later.0 later.1 makes) src dst (source_given p.content port from given is.fits.0 are (ports_same p.content six.ports) (out_given p.content given from refl refl))
+        | inr later ↦ comes_of setting c six given true from p.head.dst (content_from from port p.content) through is.arrives got.is.0
+            (later_back setting.mtus (id_of setting) q c.six c.four got.src got.dst got.dst got.src given.inner_src given.inner_dst got.ports six.ports later.0 later.1 makes) src dst (source_given p.content port from given is.fits.0 are (ports_same p.content six.ports) (out_given p.content given from refl refl))
       ];
     }
-to_relay domain step (Turn from port freed) relay c is = absurd is.sent
-to_relay domain step (In to port from peer freed) relay c is = absurd is.sent
-to_relay domain step (Kept port until) relay c is = absurd is.sent
-to_relay domain step Held relay c is = absurd is.sent
-to_relay domain step (Refused cause freed) relay c is = absurd is.sent
+to_relay setting step (Turn from port freed) relay c is = absurd is.sent
+to_relay setting step (In to port from peer freed) relay c is = absurd is.sent
+to_relay setting step (Kept port until) relay c is = absurd is.sent
+to_relay setting step Held relay c is = absurd is.sent
+to_relay setting step (Refused cause freed) relay c is = absurd is.sent
 
 -- ---- to an edge
 
 -- the address that the edge finds behind the source
-from_told : (domain : Domain) (step : Step) (q : Packet6) (to : Addr4) (port : ℕ) (from peer : Addr4) (freed : List Parcel) → AreRulesOf domain.dmr (rules_at step)
-    → AnsweredIn step q.head.src (near_addr6 q q.content) (In to port from peer freed) → ipv4_behind domain.dmr q.head.src.0 ≡ Some from.0
-from_told domain step q to port from peer freed rules answered =
+from_told : (setting : Setting) (step : Step) (q : Packet6) (to : Addr4) (port : ℕ) (from peer : Addr4) (freed : List Parcel) → AreRulesOf setting.dmr (rules_of_step step)
+    → AnsweredIn step q.head.src (near_addr6 q q.content) (In to port from peer freed) → ipv4_behind setting.dmr q.head.src.0 ≡ Some from.0
+from_told setting step q to port from peer freed rules answered =
     let way = way_in step.prefix step.state step.moment answered.fault answered.proto answered.port answered.dst q.head.src (near_addr6 q q.content) answered.far_port answered.flags answered.part freed to port from peer answered.is in
-    behind_holds (rules_at step) domain.dmr q.head.src.0 way.port from rules.fixed way.from_is
+    behind_holds (rules_of_step step) setting.dmr q.head.src.0 way.port from rules.fixed way.from_is
 
 -- and behind the remote address of its flow
-peer_told : (domain : Domain) (step : Step) (q : Packet6) (to : Addr4) (port : ℕ) (from peer : Addr4) (freed : List Parcel) → AreRulesOf domain.dmr (rules_at step)
-    → AnsweredIn step q.head.src (near_addr6 q q.content) (In to port from peer freed) → ipv4_behind domain.dmr (near_addr6 q q.content).0 ≡ Some peer.0
-peer_told domain step q to port from peer freed rules answered =
+peer_told : (setting : Setting) (step : Step) (q : Packet6) (to : Addr4) (port : ℕ) (from peer : Addr4) (freed : List Parcel) → AreRulesOf setting.dmr (rules_of_step step)
+    → AnsweredIn step q.head.src (near_addr6 q q.content) (In to port from peer freed) → ipv4_behind setting.dmr (near_addr6 q q.content).0 ≡ Some peer.0
+peer_told setting step q to port from peer freed rules answered =
     let way = way_in step.prefix step.state step.moment answered.fault answered.proto answered.port answered.dst q.head.src (near_addr6 q q.content) answered.far_port answered.flags answered.part freed to port from peer answered.is in
-    behind_holds (rules_at step) domain.dmr (near_addr6 q q.content).0 way.port peer rules.fixed way.far_is
+    behind_holds (rules_of_step step) setting.dmr (near_addr6 q q.content).0 way.port peer rules.fixed way.far_is
 
 passage_with : (mtus domain_mtus : Mtus) (p : Packet4) (payload : List ℕ) (ends : Ends Addr6) (passage : Passage) → mtus ≡ domain_mtus → IsPassage46 mtus p payload ends passage → IsPassage46 domain_mtus p payload ends passage
 passage_with mtus domain_mtus p payload ends passage same is = subst (λ (m : Mtus). IsPassage46 m p payload ends passage) same is
 
-pub from_relay : (domain : Domain) (relay : Relay) (step : Step) (answer : Answer) (c : Passed) → FromRelay domain relay step answer c → IsOneStep domain (answer ∷ []) c
-from_relay domain relay step (In to port from peer freed) c is =
+pub from_relay : (setting : Setting) (relay : Relay) (step : Step) (answer : Answer) (c : Passed) → FromRelay setting relay step answer c → IsOneStep setting (answer ∷ []) c
+from_relay setting relay step (In to port from peer freed) c is =
     let p = c.taken in
     let q = c.read in
     let flow4 = flow_of4 p.content in
@@ -325,35 +323,35 @@ from_relay domain relay step (In to port from peer freed) c is =
     let plain = ends_in (flow_of6 q.content) to port from peer in
     let given : Ends Addr4 = record { src = from; dst = to; inner_src = to; inner_dst = far_inner p.content to; ports = with_far_port flow4.proto flow4.fault port ports } in
     let inside = within p c.octets is.taken in
-    let through : IsThrough domain c six = record { taken = is.taken; fits = is.sent.fits; passage = passage_with relay.params.mtus domain.mtus p (payload_of4 p.head c.octets) six c.passage is.relay_is.mtus is.sent.is; emitted = is.emitted } in
-    let saw = sees domain c six plain false through is.arrives in
+    let through : IsThrough setting c six = record { taken = is.taken; fits = is.sent.fits; passage = passage_with relay.params.mtus setting.mtus p (payload_of4 p.head c.octets) six c.passage is.relay_is.mtus is.sent.is; emitted = is.emitted } in
+    let saw = sees setting c six plain false through is.arrives in
     let small = src_fits p.head c.octets is.taken.are is.taken.is.is.fields in
-    let told : ipv4_behind domain.dmr (embedded_in relay.dmr p.head.src).0 ≡ Some from.0 = subst (λ (a : Addr6). ipv4_behind domain.dmr a.0 ≡ Some from.0) saw.ends.src (from_told domain step q to port from peer freed is.rules is.answered) in
-    let holds : ipv4_behind domain.dmr (embedded_in relay.dmr p.head.src).0 ≡ Some p.head.src.0 = subst (λ (d : Dmr). ipv4_behind d (embedded_in relay.dmr p.head.src).0 ≡ Some p.head.src.0) is.relay_is.dmr (embedded_holds relay.dmr p.head.src.0 small) in
-    let src = one_behind domain.dmr (embedded_in relay.dmr p.head.src).0 from p.head.src told holds in
+    let told : ipv4_behind setting.dmr (embedded_in relay.dmr p.head.src).0 ≡ Some from.0 = subst (λ (a : Addr6). ipv4_behind setting.dmr a.0 ≡ Some from.0) saw.ends.src (from_told setting step q to port from peer freed is.rules is.answered) in
+    let holds : ipv4_behind setting.dmr (embedded_in relay.dmr p.head.src).0 ≡ Some p.head.src.0 = subst (λ (d : Dmr). ipv4_behind d (embedded_in relay.dmr p.head.src).0 ≡ Some p.head.src.0) is.relay_is.dmr (embedded_holds relay.dmr p.head.src.0 small) in
+    let src = one_behind setting.dmr (embedded_in relay.dmr p.head.src).0 from p.head.src told holds in
     let makes = is.received.1 in
     record {
       replaced = received_at to port p;
       by_answers = refl;
       comes = elim saw.flow [
-        | inl flow ↦ comes_of domain c six plain false p.head.src to (content_to to port p.content) through is.arrives is.received.0 makes src refl
-            (destination_given p.content ports port to plain is.fits is.sent.fits.ports is.sent.flow (read_far p.content six port q.content flow) (inner_in domain.dmr relay p.content p.head.src p.head.dst peer to six plain q is.relay_is.dmr refl flow inside (peer_told domain step q to port from peer freed is.rules is.answered) refl refl))
-        | inr later ↦ comes_of domain c six given false p.head.src to (content_to to port p.content) through is.arrives is.received.0
-            (later_back domain.mtus (id_of domain) q c.six c.four from to to peer to given.inner_dst plain.ports given.ports later.0 later.1 makes) src refl (destination_given p.content ports port to given is.fits is.sent.fits.ports is.sent.flow (ports_same p.content given.ports) (in_given p.content given to refl refl))
+        | inl flow ↦ comes_of setting c six plain false p.head.src to (content_to to port p.content) through is.arrives is.received.0 makes src refl
+            (destination_given p.content ports port to plain is.fits is.sent.fits.ports is.sent.flow (read_far p.content six port q.content flow) (inner_in setting.dmr relay p.content p.head.src p.head.dst peer to six plain q is.relay_is.dmr refl flow inside (peer_told setting step q to port from peer freed is.rules is.answered) refl refl))
+        | inr later ↦ comes_of setting c six given false p.head.src to (content_to to port p.content) through is.arrives is.received.0
+            (later_back setting.mtus (id_of setting) q c.six c.four from to to peer to given.inner_dst plain.ports given.ports later.0 later.1 makes) src refl (destination_given p.content ports port to given is.fits is.sent.fits.ports is.sent.flow (ports_same p.content given.ports) (in_given p.content given to refl refl))
       ];
     }
-from_relay domain relay step (Out from port src6 dst6 freed) c is = absurd is.received
-from_relay domain relay step (Turn from port freed) c is = absurd is.received
-from_relay domain relay step (Kept port until) c is = absurd is.received
-from_relay domain relay step Held c is = absurd is.received
-from_relay domain relay step (Refused cause freed) c is = absurd is.received
+from_relay setting relay step (Out from port src6 dst6 freed) c is = absurd is.received
+from_relay setting relay step (Turn from port freed) c is = absurd is.received
+from_relay setting relay step (Kept port until) c is = absurd is.received
+from_relay setting relay step Held c is = absurd is.received
+from_relay setting relay step (Refused cause freed) c is = absurd is.received
 
-pub edge_to_edge : (domain : Domain) (one other : End) (c : Passed) → EdgeToEdge domain one other c → IsOneStep domain (one.answer ∷ other.answer ∷ []) c
-edge_to_edge domain one other c is = by one.answer other.answer is.out is.fits_out is.sent is.inward is.fits_in is.received
+pub edge_to_edge : (setting : Setting) (one other : EdgeAnswer) (c : Passed) → EdgeToEdge setting one other c → IsOneStep setting (one.answer ∷ other.answer ∷ []) c
+edge_to_edge setting one other c is = by one.answer other.answer is.out is.fits_out is.sent is.inward is.fits_in is.received
   where
-    by : (out inward : Answer) → AnsweredOut one.step c.taken.head.dst out → FitsAnswer out → EdgeSends domain.mtus out c.taken c.octets c.passage
-        → AnsweredIn other.step c.read.head.src (near_addr6 c.read c.read.content) inward → FitsAnswer inward → EdgeReceives domain.mtus (id_of domain) inward c.read c.six (Sent c.four)
-        → IsOneStep domain (out ∷ inward ∷ []) c
+    by : (out inward : Answer) → AnsweredOut one.step c.taken.head.dst out → FitsAnswer out → EdgeSends setting.mtus out c.taken c.octets c.passage
+        → AnsweredIn other.step c.read.head.src (near_addr6 c.read c.read.content) inward → FitsAnswer inward → EdgeReceives setting.mtus (id_of setting) inward c.read c.six (Sent c.four)
+        → IsOneStep setting (out ∷ inward ∷ []) c
     by (Out out_from out_port src6 dst6 out_freed) (In to port from peer freed) answered fits sent answered_in fits_in received =
         let p = c.taken in
         let q = c.read in
@@ -361,22 +359,22 @@ edge_to_edge domain one other c is = by one.answer other.answer is.out is.fits_o
         let six = ends_out flow4 out_port src6 dst6 in
         let plain = ends_in (flow_of6 q.content) to port from peer in
         let given : Ends Addr4 = record { src = from; dst = to; inner_src = to; inner_dst = out_from; ports = with_far_port flow4.proto flow4.fault port six.ports } in
-        let through = through_out domain c out_from out_port src6 dst6 out_freed is.taken fits sent is.emitted in
-        let saw = sees domain c six plain false through is.arrives in
+        let through = through_out setting c out_from out_port src6 dst6 out_freed is.taken fits sent is.emitted in
+        let saw = sees setting c six plain false through is.arrives in
         let are = ports_fit p c.octets is.taken in
-        let holds = holds_out domain.dmr one.step p.head.dst out_from out_port src6 dst6 out_freed is.rules_out (dst_fits p.head c.octets is.taken.are is.taken.is.is.fields) answered in
-        let told : ipv4_behind domain.dmr src6.0 ≡ Some from.0 = subst (λ (a : Addr6). ipv4_behind domain.dmr a.0 ≡ Some from.0) saw.ends.src (from_told domain other.step q to port from peer freed is.rules_in answered_in) in
-        let src = one_behind domain.dmr src6.0 from out_from told holds.source in
+        let holds = holds_out setting.dmr one.step p.head.dst out_from out_port src6 dst6 out_freed is.rules_out (dst_fits p.head c.octets is.taken.are is.taken.is.is.fields) answered in
+        let told : ipv4_behind setting.dmr src6.0 ≡ Some from.0 = subst (λ (a : Addr6). ipv4_behind setting.dmr a.0 ≡ Some from.0) saw.ends.src (from_told setting other.step q to port from peer freed is.rules_in answered_in) in
+        let src = one_behind setting.dmr src6.0 from out_from told holds.source in
         let content = content_to to port (content_from out_from out_port p.content) in
         let makes = received.1 in
         record {
           replaced = received_at to port (sent_from out_from out_port p);
           by_answers = refl;
           comes = elim saw.flow [
-            | inl flow ↦ comes_of domain c six plain false out_from to content through is.arrives received.0 makes src refl
-                (both_given p.content out_port port out_from to plain fits.0 fits_in are (read_far p.content six port q.content flow) (inner_both domain.dmr p.content out_from peer to six plain q holds.source flow (peer_told domain other.step q to port from peer freed is.rules_in answered_in) refl refl))
-            | inr later ↦ comes_of domain c six given false out_from to content through is.arrives received.0
-                (later_back domain.mtus (id_of domain) q c.six c.four from to to peer to out_from plain.ports given.ports later.0 later.1 makes) src refl (both_given p.content out_port port out_from to given fits.0 fits_in are (ports_same p.content given.ports) (both_ends p.content given out_from to refl refl))
+            | inl flow ↦ comes_of setting c six plain false out_from to content through is.arrives received.0 makes src refl
+                (both_given p.content out_port port out_from to plain fits.0 fits_in are (read_far p.content six port q.content flow) (inner_both setting.dmr p.content out_from peer to six plain q holds.source flow (peer_told setting other.step q to port from peer freed is.rules_in answered_in) refl refl))
+            | inr later ↦ comes_of setting c six given false out_from to content through is.arrives received.0
+                (later_back setting.mtus (id_of setting) q c.six c.four from to to peer to out_from plain.ports given.ports later.0 later.1 makes) src refl (both_given p.content out_port port out_from to given fits.0 fits_in are (ports_same p.content given.ports) (both_ends p.content given out_from to refl refl))
           ];
         }
     by (Out out_from out_port src6 dst6 out_freed) (Out from port src dst freed) answered fits sent answered_in fits_in received = absurd received

@@ -1,7 +1,6 @@
 -- The addresses in an answer of the machine.
-use Rattle.std.proofs.Common.{◌≡◌, ℕ, Bool, true, false, cond, List, [], Option, Some, None, refl, sym, ap, ◌∙◌, subst}
+use Rattle.std.proofs.Common.{◌≡◌, ℕ, Bool, true, false, cond, List, [], Option, Some, None, refl, ap, subst}
 use Rattle.std.specs.Prelude.{Result, Ok, Err}
-use Rattle.std.specs.List.{find}
 use Rattle.octets.specs.declared.address.Addr4.{Addr4}
 use Rattle.octets.specs.declared.address.Addr6.{Addr6}
 use Rattle.octets.specs.declared.cause.Cause.{Cause}
@@ -21,15 +20,13 @@ use Rattle.nat_model.specs.declared.ask.Ask.{Ask}
 use Rattle.nat_model.specs.declared.ask.Ask.TheVariants.{Outward, Inward}
 use Rattle.nat_model.specs.declared.ask.Far.TheVariants.{Six}
 use Rattle.nat_model.specs.declared.ask.End4.{End4}
-use Rattle.nat_model.specs.declared.ask.Far.{Far}
 use Rattle.nat_model.specs.declared.ask.Part.{Part}
 use Rattle.nat_model.specs.declared.binding.Binding.{Binding}
-use Rattle.nat_model.specs.Binding.{is_of_host, is_of_port, refreshed}
-use Rattle.nat_model.specs.Claim.{Bound, bound}
+use Rattle.nat_model.specs.Claim.{Bound}
 use Rattle.nat_model.specs.Fragment.{frag_ask_of, part_of, ports_of}
-use Rattle.nat_model.specs.Machine.{nat, timed, renewed, at_time, held_by, gathered, told, passed, sent_flow, sent_by, sent_error, sent_error_by, received, received_by, received_from, with_entry, arrives, refuses}
+use Rattle.nat_model.specs.Machine.{nat, timed, renewed, at_time, held_by, gathered, told, passed, sent_flow, sent_by, sent_error, sent_error_by, received, received_by, received_from, arrives, refuses}
 use Rattle.nat_model.specs.Remote.{remote, behind, both, reached, sent, is_own}
-use Rattle.nat_model.specs.State.{Generation, NatState, Moment, holder_at}
+use Rattle.nat_model.specs.State.{Generation, NatState, Moment}
 
 abbrev ok_of : Addr4 → Result Addr4 Cause
 ok_of a = Ok a

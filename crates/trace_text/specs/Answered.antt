@@ -1,6 +1,6 @@
 -- What the NAPT44 machine of an edge answered to a packet that crosses: for one that goes out, and for one that comes in from the
 -- access network. A fragment that was freed has the answer to the first fragment that freed it, which had the same addresses.
-use Rattle.std.specs.Prelude.{◌≡◌, ℕ, ◌<◌, ◌^◌, Bool, List}
+use Rattle.std.specs.Prelude.{◌≡◌, ℕ, ◌<◌, ◌^◌, Bool}
 use Rattle.std.specs.List.{All}
 use Rattle.octets.specs.declared.address.Addr4.{Addr4}
 use Rattle.octets.specs.declared.address.Addr6.{Addr6}
@@ -24,8 +24,8 @@ pub record Step : Type 0 where
   pub moment : Moment
 
 -- the rules by which it answers
-abbrev pub rules_at : Step → Generation
-rules_at step = (renewed step.prefix step.moment.seen step.state).book
+abbrev pub rules_of_step : Step → Generation
+rules_of_step step = (renewed step.prefix step.moment.seen step.state).book
 
 -- rules that a book may have, beside this default mapping rule, which never changes
 pub record AreRulesOf (dmr : Dmr) (book : Generation) : Type 0 where

@@ -1,38 +1,37 @@
 //! What holds of every packet that crosses the domain. Each law is the contract of a function that does nothing.
 
-ghost use Rattle.std.specs.Prelude.{◌≡◌, ◌<◌, ◌^◌, ℕ, List, [], ◌∷◌, Some};
-ghost use Rattle.std.specs.List.{All};
+ghost use Rattle.std.specs.Prelude.{◌≡◌, ℕ, List, [], ◌∷◌, Some};
 ghost use Rattle.octets.specs.declared.address.Addr4.{Addr4};
 ghost use Rattle.map_rules.specs.declared.rule.Rule.{Rule};
 ghost use Rattle.map_rules.specs.declared.dmr.Dmr.{Dmr};
-ghost use Rattle.map_rules.specs.Embedding.{embedded, extract_of};
+ghost use Rattle.map_rules.specs.Embedding.{extract_of};
 ghost use Rattle.rule_book.specs.declared.view.FarOf.TheVariants.{Addr};
 ghost use Rattle.rule_book.specs.Far.{far_of};
 ghost use Rattle.nat_model.specs.declared.answer.Answer.{Answer};
 ghost use Rattle.relay_node.specs.Relay.{Relay};
 ghost use Rattle.trace_text.specs.Answered.{Step};
 ghost use Rattle.trace_text.specs.Behind.{ipv4_behind};
-ghost use Rattle.trace_text.specs.Crossings.{Passed, Domain, End, ToRelay, FromRelay, EdgeToEdge, IsOneStep};
+ghost use Rattle.trace_text.specs.Crossings.{Passed, Setting, EdgeAnswer, ToRelay, FromRelay, EdgeToEdge, IsOneStep};
 
 /// From an edge to the relay: what the relay sends to the core is the host's packet with the address and port of the machine's
 /// answer, but for the named header changes.
 pub fn a_packet_to_the_relay_is_one_step()
-    ensures { (domain : Domain) (step : Step) (answer : Answer) (relay : Relay) (c : Passed)
-        → ToRelay domain step answer relay c → IsOneStep domain (answer ∷ []) c }
+    ensures { (setting : Setting) (step : Step) (answer : Answer) (relay : Relay) (c : Passed)
+        → ToRelay setting step answer relay c → IsOneStep setting (answer ∷ []) c }
 {}
 
 /// From the relay to an edge: what the edge sends to its LAN is the packet of the core with the host and port of the machine's
 /// answer, but for the named header changes.
 pub fn a_packet_from_the_relay_is_one_step()
-    ensures { (domain : Domain) (relay : Relay) (step : Step) (answer : Answer) (c : Passed)
-        → FromRelay domain relay step answer c → IsOneStep domain (answer ∷ []) c }
+    ensures { (setting : Setting) (relay : Relay) (step : Step) (answer : Answer) (c : Passed)
+        → FromRelay setting relay step answer c → IsOneStep setting (answer ∷ []) c }
 {}
 
 /// From an edge to an edge, by a forwarding rule: what the second edge sends to its LAN is the first host's packet with what both
 /// machines' answers replace, one after the other, but for the named header changes.
 pub fn a_packet_between_edges_is_two_steps()
-    ensures { (domain : Domain) (one other : End) (c : Passed)
-        → EdgeToEdge domain one other c → IsOneStep domain (one.answer ∷ other.answer ∷ []) c }
+    ensures { (setting : Setting) (one other : EdgeAnswer) (c : Passed)
+        → EdgeToEdge setting one other c → IsOneStep setting (one.answer ∷ other.answer ∷ []) c }
 {}
 
 /// An IPv6 source that is accepted, outer or embedded, is inside the default mapping rule and embeds the IPv4 address, or is a

@@ -2,4 +2,4 @@ use Rattle.trace_text.proofs.Directions.{to_relay}
 use Rattle.trace_text.proofs.laws.a_packet_to_the_relay_is_one_step.Goals as goal
 
 pub returns : goal.returns
-returns k = λ domain step answer relay c is. to_relay domain step answer relay c is
+returns k = λ setting step answer relay c is. to_relay setting step answer relay c is
