@@ -2,3 +2,4 @@ pub mod Answered
 pub mod Behind
 pub mod Hops
 pub mod Crossings
+pub mod Pieces
