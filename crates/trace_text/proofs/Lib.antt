@@ -3,3 +3,4 @@ pub mod Addresses
 pub mod Fits
 pub mod Ports
 pub mod Directions
+pub mod Whole
