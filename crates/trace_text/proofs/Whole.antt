@@ -1,5 +1,5 @@
 -- The pieces of a packet that is cut arrive as its whole payload.
-use Rattle.std.proofs.Common.{◌≡◌, ◌⊎◌, ℕ, zero, suc, ◌+◌, ◌*◌, ◌%◌, ◌^◌, ◌<◌, Bool, true, false, not, ◌||◌, ◌&&◌, List, [], ◌∷◌, Option, Some, None, inl, inr, refl, sym, ap, ◌∙◌, subst, arith}
+use Rattle.std.proofs.Common.{◌≡◌, ℕ, suc, ◌+◌, ◌*◌, ◌<◌, Bool, true, false, not, ◌&&◌, List, [], ◌∷◌, Option, Some, inl, inr, refl, sym, ap, ◌∙◌, subst, arith}
 use Rattle.std.specs.Prelude.{slice_get}
 use Rattle.std.proofs.lemmas.Bool.{false≢true}
 use Rattle.octets.specs.declared.address.Addr4.{Addr4}
@@ -19,13 +19,12 @@ use Rattle.packets.specs.declared.packet4.Packet4.{Packet4}
 use Rattle.packets.specs.declared.packet6.Content6.{Content6}
 use Rattle.packets.specs.declared.packet6.Content6.TheVariants.{Later as Later6}
 use Rattle.packets.specs.declared.packet6.Packet6.{Packet6}
-use Rattle.packets.specs.Packet6.{IsPacket6}
 use Rattle.transit.specs.Passage46.{is_message4}
 use Rattle.transit.specs.Passage64.{translation64}
 use Rattle.crossing.specs.Named.{piece_at}
-use Rattle.crossing.specs.Pieces.{IsCutInto, AreBack, ComeTogether}
+use Rattle.crossing.specs.Pieces.{IsCutInto, AreBack}
 use Rattle.crossing.specs.Transfer.{Transfer, FitsPorts, IsTakenAs, IsPieceThere, IsBack}
-use Rattle.crossing.proofs.Over.{Seen, seen, FlowMay}
+use Rattle.crossing.proofs.Over.{seen, FlowMay}
 use Rattle.crossing.proofs.Uncut.{FlowIs}
 use Rattle.crossing.proofs.Together.{comes_together}
 use Rattle.crossing.specs.Nat44.{nat44, sent_from, received_at, content_from, content_to}
@@ -104,9 +103,10 @@ are_back t octets at_relay Receives all cut k (piece ∷ pieces) (four ∷ fours
       found = ap (λ (n : ℕ). slice_get all n) (plus_none k) ∙ lookup 0;
       bytes = refl;
       begins = refl;
-    } in
-    (one piece.bytes four (k * step_of t.mtus.mtu6) there received.0,
-    are_back t octets at_relay Receives all cut (suc k) pieces fours small one (λ j. ap (λ (n : ℕ). slice_get all n) (sym (next k j)) ∙ lookup (suc j)) received.1)
+    } in (
+      one piece.bytes four (k * step_of t.mtus.mtu6) there received.0,
+      are_back t octets at_relay Receives all cut (suc k) pieces fours small one (λ j. ap (λ (n : ℕ). slice_get all n) (sym (next k j)) ∙ lookup (suc j)) received.1,
+    )
 
 -- ---- all of them
 
@@ -200,5 +200,68 @@ pieces_to_relay setting edge c replaced is = by edge.answer is.answered is.fits 
     by (Turn from port freed) answered fits sent e = absurd sent
     by (In to port from peer freed) answered fits sent e = absurd sent
     by (Kept port until) answered fits sent e = absurd sent
+    by Held answered fits sent e = absurd sent
+    by (Refused cause freed) answered fits sent e = absurd sent
+
+-- ---- one piece at an edge
+
+edge_piece : (setting : Setting) (c : PassedInPieces) (six : Ends Addr6) (source to : Addr4) (port : ℕ) (octets four : List ℕ) (at : ℕ) (given : Ends Addr4) → let t = cut_transfer setting c six given in
+    IsTakenAs t c.octets → given.src ≡ source → given.dst ≡ to → given.ports ≡ with_far_port (flow_of4 c.taken.content).proto (flow_of4 c.taken.content).fault port six.ports → FitsPorts c.taken.content given.ports
+    → ipv4_behind setting.dmr six.src.0 ≡ Some source.0 → IsPieceThere t at octets → EdgeTakes setting to port octets four → (q : Packet6) × IsBack t false q octets four
+edge_piece setting c six source to port octets four at given taken is_src is_dst is_ports fits holds there takes =
+    let p = c.taken in
+    let t = cut_transfer setting c six given in
+    let q = takes.read in
+    let plain = ends_in (flow_of6 q.content) to port takes.from takes.peer in
+    let saw = seen t c.octets octets (piece_at at) false q taken there takes.arrives in
+    let told : ipv4_behind setting.dmr six.src.0 ≡ Some takes.from.0 = subst (λ (a : Addr6). ipv4_behind setting.dmr a.0 ≡ Some takes.from.0) saw.ends.src (from_told setting takes.step q to port takes.from takes.peer takes.freed takes.rules takes.answered) in
+    let src = one_behind setting.dmr six.src.0 takes.from source told holds ∙ sym is_src in
+    let back = given_back p.content setting.mtus q.head (payload_of6 q.head octets) four six plain given (id_of setting) q.content there.flows saw.flow src (sym is_dst)
+    (λ (flow : FlowIs p.content six q.content). subst (λ (ports : Ports). PortsAre p.content plain.ports ports) (sym is_ports) (read_far p.content six port q.content flow)) takes.received.1 in
+    (q, record { is = takes.arrives; lasts = takes.received.0; ports = fits; back = back })
+
+pub pieces_from_relay : (setting : Setting) (relay : Relay) (to : Addr4) (port : ℕ) (c : PassedInPieces) → PiecesFromRelay setting relay to port c → ArriveWhole setting c (received_at to port c.taken)
+pieces_from_relay setting relay to port c is =
+    let p = c.taken in
+    let flow4 = flow_of4 p.content in
+    let ports = is.sent.ports in
+    let six = ends46 relay p is.sent.own ports in
+    let given : Ends Addr4 = record { src = p.head.src; dst = to; inner_src = to; inner_dst = far_inner p.content to; ports = with_far_port flow4.proto flow4.fault port ports } in
+    let t = cut_transfer setting c six given in
+    let taken = taken_as setting c six given is.taken is.sent.fits in
+    let replaces = destination_given p.content ports port to given is.fits is.sent.fits.ports is.sent.flow (ports_same p.content given.ports) (in_given p.content given to refl refl) in
+    let small = src_fits p.head c.octets is.taken.are is.taken.is.is.fields in
+    let holds : ipv4_behind setting.dmr (embedded_in relay.dmr p.head.src).0 ≡ Some p.head.src.0 = subst (λ (d : Dmr). ipv4_behind d (embedded_in relay.dmr p.head.src).0 ≡ Some p.head.src.0) is.relay_is.dmr (embedded_holds relay.dmr p.head.src.0 small) in
+    let passage : IsPassage46 setting.mtus p (payload_of4 p.head c.octets) six (Cut c.pieces) = subst (λ (m : Mtus). IsPassage46 m p (payload_of4 p.head c.octets) six (Cut c.pieces)) is.relay_is.mtus is.sent.is in
+    let one : OnePiece t c.octets false (EdgeTakes setting to port) = λ (octets four : List ℕ) (at : ℕ) (there : IsPieceThere t at octets) (takes : EdgeTakes setting to port octets four).
+    edge_piece setting c six p.head.src to port octets four at given taken refl refl refl replaces.fits holds there takes in
+    arrive setting c six given false (EdgeTakes setting to port) p.head.src to (content_to to port p.content) is.taken is.sent.fits passage one is.received refl refl replaces
+
+pub pieces_between_edges : (setting : Setting) (edge : EdgeAnswer) (to : Addr4) (port : ℕ) (c : PassedInPieces) (replaced : Packet4) → PiecesBetweenEdges setting edge to port c → nat44 c.taken edge.answer ≡ Some replaced
+    → ArriveWhole setting c (received_at to port replaced)
+pieces_between_edges setting edge to port c replaced is = by edge.answer is.answered is.fits_out is.sent
+  where
+    same : (p r : Packet4) → ◌≡◌ {A = Option Packet4} (Some p) (Some r) → p ≡ r
+    same p r e = cc
+
+    by : (answer : Answer) → AnsweredOut edge.step c.taken.head.dst answer → FitsAnswer answer → EdgeSends setting.mtus answer c.taken c.octets (Cut c.pieces) → nat44 c.taken answer ≡ Some replaced → ArriveWhole setting c (received_at to port replaced)
+    by (Out from out_port src6 dst6 freed) answered fits sent e =
+        let p = c.taken in
+        let flow4 = flow_of4 p.content in
+        let six = ends_out flow4 out_port src6 dst6 in
+        let given : Ends Addr4 = record { src = from; dst = to; inner_src = to; inner_dst = from; ports = with_far_port flow4.proto flow4.fault port six.ports } in
+        let t = cut_transfer setting c six given in
+        let are = ports_fit p c.octets is.taken in
+        let ends : FitsEnds six = record { src = fits.1; dst = fits.2; inner_src = fits.2; inner_dst = fits.1; ports = near_fits flow4.proto flow4.fault out_port flow4.ports fits.0 are } in
+        let taken = taken_as setting c six given is.taken ends in
+        let replaces = both_given p.content out_port port from to given fits.0 is.fits are (ports_same p.content given.ports) (both_ends p.content given from to refl refl) in
+        let holds = holds_out setting.dmr edge.step p.head.dst from out_port src6 dst6 freed is.rules (dst_fits p.head c.octets is.taken.are is.taken.is.is.fields) answered in
+        let one : OnePiece t c.octets false (EdgeTakes setting to port) = λ (octets four : List ℕ) (at : ℕ) (there : IsPieceThere t at octets) (takes : EdgeTakes setting to port octets four).
+        edge_piece setting c six from to port octets four at given taken refl refl refl replaces.fits holds.source there takes in
+        subst (λ (r : Packet4). ArriveWhole setting c (received_at to port r)) (same (sent_from from out_port p) replaced e)
+        (arrive setting c six given false (EdgeTakes setting to port) from to (content_to to port (content_from from out_port p.content)) is.taken ends sent one is.received refl refl replaces)
+    by (Turn from out_port freed) answered fits sent e = absurd sent
+    by (In host out_port from peer freed) answered fits sent e = absurd sent
+    by (Kept out_port until) answered fits sent e = absurd sent
     by Held answered fits sent e = absurd sent
     by (Refused cause freed) answered fits sent e = absurd sent

@@ -1,10 +1,9 @@
 -- A packet that the first node cuts, of which the second node drops and holds no piece: from an edge to the relay, from the relay to
 -- an edge, and from an edge to an edge. Each piece may find the second node under rules of its own generation.
-use Rattle.std.specs.Prelude.{◌≡◌, ℕ, ◌<◌, false, true, List, [], ◌∷◌, Some}
+use Rattle.std.specs.Prelude.{ℕ, ◌<◌, false, true, List, [], ◌∷◌}
 use Rattle.octets.specs.declared.address.Addr4.{Addr4}
 use Rattle.octets.specs.declared.parcel.Parcel.{Parcel}
 use Rattle.ip4_packet.specs.Grammar.{payload_of4}
-use Rattle.nat_model.specs.declared.answer.Answer.{Answer}
 use Rattle.nat_model.specs.declared.answer.Answer.TheVariants.{In}
 use Rattle.packets.specs.declared.packet4.Packet4.{Packet4}
 use Rattle.packets.specs.declared.packet6.Packet6.{Packet6}
@@ -12,9 +11,7 @@ use Rattle.packets.specs.Packet6.{IsPacket6}
 use Rattle.transit.specs.declared.passage.Passage.TheVariants.{Sent, Cut}
 use Rattle.edge_node.specs.Asked.{near_addr6}
 use Rattle.relay_node.specs.Relay.{Relay}
-use Rattle.crossing.specs.Named.{Crossing}
 use Rattle.crossing.specs.Pieces.{ComeTogether}
-use Rattle.crossing.specs.Nat44.{nat44, sent_from, received_at}
 use Rattle.trace_text.specs.Answered.{Step, AreRulesOf, AnsweredOut, AnsweredIn, rules_of_step}
 use Rattle.trace_text.specs.Hops.{IsTaken4, FitsAnswer, EdgeSends, EdgeReceives, RelaySends, RelayReceives}
 use Rattle.trace_text.specs.Crossings.{Setting, EdgeAnswer, id_of, IsRelayOf}
