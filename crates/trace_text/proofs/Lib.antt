@@ -4,3 +4,4 @@ pub mod Fits
 pub mod Ports
 pub mod Directions
 pub mod Whole
+pub mod Trials
