@@ -4,4 +4,5 @@ pub mod Fits
 pub mod Ports
 pub mod Directions
 pub mod Whole
+pub mod Relayed
 pub mod Trials

@@ -3,3 +3,4 @@ pub mod Behind
 pub mod Hops
 pub mod Crossings
 pub mod Pieces
+pub mod Relayed

@@ -2,6 +2,8 @@
 
 ghost use Rattle.std.specs.Prelude.{◌≡◌, ℕ, List, [], ◌∷◌, Some};
 ghost use Rattle.octets.specs.declared.address.Addr4.{Addr4};
+ghost use Rattle.octets.specs.declared.address.Addr6.{Addr6};
+ghost use Rattle.l4_headers.specs.declared.ports.Ports.{Ports};
 ghost use Rattle.map_rules.specs.declared.rule.Rule.{Rule};
 ghost use Rattle.map_rules.specs.declared.dmr.Dmr.{Dmr};
 ghost use Rattle.map_rules.specs.Embedding.{extract_of};
@@ -9,8 +11,16 @@ ghost use Rattle.rule_book.specs.declared.view.FarOf.TheVariants.{Addr};
 ghost use Rattle.rule_book.specs.Far.{far_of};
 ghost use Rattle.nat_model.specs.declared.answer.Answer.{Answer};
 ghost use Rattle.packets.specs.declared.packet4.Packet4.{Packet4};
-ghost use Rattle.relay_node.specs.Relay.{Relay};
+ghost use Rattle.packets.specs.declared.packet6.Packet6.{Packet6};
+ghost use Rattle.packets.specs.Asked.{flow_of4};
+ghost use Rattle.relay_node.specs.FromAccess.{Becomes6};
+ghost use Rattle.relay_node.specs.FromIpv4.{Becomes4, ends46};
+ghost use Rattle.relay_node.specs.Relay.{Relay, destination_port, own_of};
+ghost use Rattle.packet_faults.specs.declared.hop.Hop.{Hop};
 ghost use Rattle.crossing.specs.Nat44.{nat44, received_at};
+ghost use Rattle.crossing.specs.Transfer.{FitsEnds};
+ghost use Rattle.trace_text.specs.Hops.{ArePortsOf4, ArePortsOf6};
+ghost use Rattle.trace_text.specs.Relayed.{IsRelayed4, IsRelayed6};
 ghost use Rattle.trace_text.specs.Answered.{Step};
 ghost use Rattle.trace_text.specs.Behind.{ipv4_behind};
 ghost use Rattle.trace_text.specs.Crossings.{Passed, Setting, EdgeAnswer, ToRelay, FromRelay, EdgeToEdge, IsOneStep};
@@ -68,4 +78,22 @@ pub fn an_accepted_source_holds_its_ipv4_address()
 /// A destination that the relay accepts embeds the IPv4 address, and is inside the default mapping rule.
 pub fn an_accepted_destination_holds_its_ipv4_address()
     ensures { (dmr : Dmr) (s addr : ℕ) → extract_of dmr.prefix.bits dmr.prefix.len s ≡ Some addr → ipv4_behind dmr s ≡ Some addr }
+{}
+
+/// What the hop of the relay does with a packet from the access network: it is lost, without an answer, or received as the laws
+/// of crossings say, and then leaves, or is dropped with an answer.
+pub fn the_relay_receives_what_it_does_not_lose()
+    ensures { (relay : Relay) (q : Packet6) (six : List ℕ) (ports : Ports) (hop : Hop)
+        → ArePortsOf6 q.content ports → Becomes6 relay q six ports hop → IsRelayed6 relay q six hop }
+{}
+
+/// The same with a packet from IPv4, where the numbers of its ends over IPv6 fit their fields.
+pub fn the_relay_sends_what_it_does_not_lose()
+    ensures { (relay : Relay) (p : Packet4) (octets : List ℕ) (ports : Ports) (hop : Hop)
+        → ArePortsOf4 p.content ports
+        → ((own : Addr6)
+        → own_of relay p.head.dst (destination_port (flow_of4 p.content).fault ports) ≡ Some own.0
+        → FitsEnds (ends46 relay p own ports))
+        → Becomes4 relay p octets ports hop
+        → IsRelayed4 relay p octets hop }
 {}
