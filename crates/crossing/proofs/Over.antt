@@ -23,7 +23,7 @@ use Rattle.crossing.specs.Named.{Portion, uncut, piece_at}
 use Rattle.crossing.specs.Transfer.{Transfer, IsTakenAs, IsPieceThere, IsSentThere, IsBack, ComesOf, crossing_of}
 use Rattle.crossing.proofs.Heads.{Reads, IsLaid, offset_there}
 use Rattle.crossing.proofs.Contents.{one_segment, one_later}
-use Rattle.crossing.proofs.Segment.{ReadsFlow, again_of, payload_there, segment_laid}
+use Rattle.crossing.proofs.Segment.{ReadsFlow, outer_segment, again_of, payload_there, segment_laid}
 use Rattle.crossing.proofs.Later.{later_laid}
 use Rattle.crossing.proofs.Piece.{l4_of-front}
 use Rattle.crossing.proofs.Cut.{cut_of, step_least, this_cut, piece_reads}
@@ -52,8 +52,8 @@ this_piece t octets over six at taken is laid =
     let id = t.taken.head.id in
     let these : AreCut (cut_of t over) is.pieces = subst (λ (g : Head6). AreCut (cut_for g over t.mtus.mtu6 id) is.pieces) same.head (subst (λ (xs : List ℕ). AreCut (cut_for h xs t.mtus.mtu6 id) is.pieces) same.payload_is is.cut.3) in
     elim (cases_lt (is.k * step_of t.mtus.mtu6) (length over)) [
-      | inl inside ↦ record { inside = inside; is = bytes_of (record { place = 0; bytes = six }) (piece (cut_of t over) (is.k * step_of t.mtus.mtu6)) (sym is.found ∙ these.each is.k inside) }
-      | inr past ↦ absurd (none_found (record { place = 0; bytes = six }) (sym (these.no_more is.k past) ∙ is.found))
+      | inl inside ↦ record { inside = inside; is = sym is.bytes ∙ bytes_of is.piece (piece (cut_of t over) (is.k * step_of t.mtus.mtu6)) (sym is.found ∙ these.each is.k inside) }
+      | inr past ↦ absurd (none_found is.piece (sym (these.no_more is.k past) ∙ is.found))
     ]
 
 -- ---- what comes of it
@@ -118,7 +118,7 @@ piece_seen t octets six at at_relay q taken is read_is = by t.taken.content refl
           | inl start ↦
               let one = one_segment at_relay (piece_head (cut_of t over) place) (piece_payload (cut_of t over) place) proto q.content laid.number.six laid.carries.there.no_icmp (omega (arith, offset, laid.carries.first, start)) inside in
               let front : l4_of proto (piece_payload (cut_of t over) place) ≡ l4_of proto over = subst (λ (n : ℕ). l4_of proto (part over n step) ≡ l4_of proto over) (sym start) (l4_of-front proto over step laid.carries.there.no_icmp (header_short t proto)) in
-              inl (subst (λ (c : Content6). ReadsFlow c proto t.six.ports) (sym one.is) (record { fault = refl; proto_is = refl; ports_are = ap (λ (l : L4). l.ports) (one.l4_is ∙ front) ∙ (again_of t proto laid.carries).ports_are; no_later = λ other later. cc }))
+              inl (subst (λ (c : Content6). ReadsFlow c proto t.six.ports) (sym one.is) (record { fault = refl; proto_is = refl; ports_are = ap (λ (l : L4). l.ports) (one.l4_is ∙ front) ∙ (again_of t proto laid.carries).ports_are; no_later = λ other later. cc; outer = λ mtus head payload ends other id src dst ports. outer_segment proto one.l4 mtus head payload ends other id src dst ports }))
           | inr behind ↦ inr (proto, one_later at_relay (piece_head (cut_of t over) place) (piece_payload (cut_of t over) place) proto q.content laid.number.six laid.carries.there.no_icmp (λ (none : fragment_offset (piece_head (cut_of t over) place).frag ≡ 0). omega (arith, offset, none, behind)) inside)
         ] in
         record { ends = ends_read t over (piece (cut_of t over) place).bytes place q read; flow = subst (λ (c : Content4). FlowMay c t.six q.content) (sym e) flow }

@@ -1,10 +1,12 @@
 -- Echo requests and replies, there and back.
-use Rattle.std.proofs.Common.{◌≡◌, ℕ, ◌+◌, ◌*◌, ◌-◌, ◌/◌, ◌%◌, ◌^◌, ◌<◌, ◌≤◌, Bool, List, ◌++◌, length, Some, refl, sym, ap, ◌∙◌, subst, arith}
+use Rattle.std.proofs.Common.{◌≡◌, ℕ, ◌+◌, ◌*◌, ◌-◌, ◌/◌, ◌%◌, ◌^◌, ◌<◌, ◌≤◌, Bool, List, ◌++◌, length, Option, Some, refl, sym, ap, ◌∙◌, subst, arith}
 use Rattle.std.proofs.lemmas.List.{length-drop}
 use Rattle.octets.specs.Field.{quad}
 use Rattle.octets.proofs.Parts.{number_back}
 use Rattle.inet_sum.specs.Sum.{words, check_sum}
+use Rattle.octets.specs.declared.address.Addr4.{Addr4}
 use Rattle.octets.specs.declared.address.Addr6.{Addr6}
+use Rattle.octets.specs.declared.mtus.Mtus.{Mtus}
 use Rattle.octets.specs.declared.proto.Proto.TheVariants.{Icmp}
 use Rattle.ip4_packet.specs.Grammar.{payload_of4}
 use Rattle.ip4_packet.specs.Written.{written4}
@@ -16,6 +18,7 @@ use Rattle.icmp_messages.specs.declared.icmp6.Icmp6.{Icmp6}
 use Rattle.icmp_messages.specs.Message.{IsIcmp6, front, with_sum4, with_sum6, covered6, message4, message6}
 use Rattle.xlat46.specs.Head.{upper_protocol}
 use Rattle.xlat64.specs.Head.{protocol_of}
+use Rattle.icmp_xlat.specs.declared.ends.Ends.{Ends}
 use Rattle.icmp_xlat.specs.declared.table.Row.{Row}
 use Rattle.icmp_xlat.specs.declared.table.Rest.TheVariants.{Query}
 use Rattle.icmp_xlat.specs.Table.{table46, table64, row_of}
@@ -139,13 +142,23 @@ query_read t m row octets six at_relay q taken laid is =
 identifier : (port rest : ℕ) → (port * 2 ^ 16 + rest % 2 ^ 16) / 2 ^ 16 ≡ port
 identifier port rest = omega arith
 
+outer_query : (n : Icmp6) (row : Row) (mtus : Mtus) (head : Head6) (payload : List ℕ) (one other : Ends Addr4) (id : ℕ) → one.src ≡ other.src → one.dst ≡ other.dst → one.ports ≡ other.ports
+    → translation64 mtus head payload one id (Query6 n row) ≡ translation64 mtus head payload other id (Query6 n row)
+outer_query n row mtus head payload one other id src dst ports =
+    ap (λ (a : Addr4). some_octets (with_message64 head (query64 n row one) (record one { src = a }) id)) src
+    ∙ ap (λ (a : Addr4). some_octets (with_message64 head (query64 n row one) (record one { src = other.src; dst = a }) id)) dst
+    ∙ ap (λ (p : Ports). some_octets (with_message64 head (query64 n row (record one { ports = p })) (record one { src = other.src; dst = other.dst }) id)) ports
+  where
+    some_octets : List ℕ → Option (List ℕ)
+    some_octets xs = Some xs
+
 pub query_flow : (t : Transfer) (m : Icmp4) (row : Row) (octets six : List ℕ) (at_relay : Bool) (q : Packet6) → t.taken.content ≡ Query4 m row
     → IsTakenAs t octets → IsThere t six → IsPacket6 at_relay q six → ReadsFlow q.content Icmp (record { src = t.six.ports.src; dst = t.six.ports.src })
 query_flow t m row octets six at_relay q e taken there is =
     let one = query_read t m row octets six at_relay q taken (query_laid t m row octets six e taken there) is in
     let port : one.message.rest / 2 ^ 16 ≡ t.six.ports.src = ap (λ (n : ℕ). n / 2 ^ 16) one.read.rest ∙ identifier t.six.ports.src m.rest in
     subst (λ (c : Content6). ReadsFlow c Icmp (record { src = t.six.ports.src; dst = t.six.ports.src })) (sym one.is)
-    (record { fault = refl; proto_is = refl; ports_are = ap (λ (n : ℕ). both_ports n) port; no_later = λ other later. cc })
+    (record { fault = refl; proto_is = refl; ports_are = ap (λ (n : ℕ). both_ports n) port; no_later = λ other later. cc; outer = λ mtus head payload ends other id src dst ports. outer_query one.message one.row mtus head payload ends other id src dst ports })
 
 pub query_crosses : (t : Transfer) (m : Icmp4) (row : Row) (octets six four : List ℕ) (at_relay : Bool) (q : Packet6) → t.taken.content ≡ Query4 m row
     → IsTakenAs t octets → IsThere t six → IsBack t at_relay q six four → ComesOf (crossing_of t) uncut four

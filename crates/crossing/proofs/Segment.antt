@@ -1,13 +1,16 @@
 -- TCP and UDP, in a whole packet and in the first fragment of one, there and back.
-use Rattle.std.proofs.Common.{◌≡◌, ◌≢◌, ℕ, ◌+◌, ◌-◌, ◌%◌, ◌^◌, ◌<◌, ◌≤◌, Bool, true, false, cond, not, List, length, Some, refl, sym, ap, ◌∙◌, subst, arith}
+use Rattle.std.proofs.Common.{◌≡◌, ◌≢◌, ℕ, ◌+◌, ◌-◌, ◌%◌, ◌^◌, ◌<◌, ◌≤◌, Bool, true, false, cond, not, List, length, Option, Some, refl, sym, ap, ◌∙◌, subst, arith}
 use Rattle.std.proofs.lemmas.Bool.{false≢true}
 use Rattle.octets.specs.Field.{word, in_quad, in_sixteen}
+use Rattle.octets.specs.declared.address.Addr4.{Addr4}
 use Rattle.octets.specs.declared.address.Addr6.{Addr6}
+use Rattle.octets.specs.declared.mtus.Mtus.{Mtus}
 use Rattle.octets.specs.declared.proto.Proto.{Proto}
 use Rattle.octets.specs.declared.proto.Proto.TheVariants.{Tcp, Udp, Icmp}
 use Rattle.inet_sum.specs.Sum.{words, adjusted, check_sum}
 use Rattle.ip4_packet.specs.Grammar.{payload_of4}
 use Rattle.ip4_packet.specs.Written.{written4}
+use Rattle.ip6_packet.specs.declared.head.Head6.{Head6}
 use Rattle.ip6_packet.specs.Written.{written6}
 use Rattle.l4_headers.specs.declared.ports.Ports.{Ports}
 use Rattle.l4_headers.specs.declared.ports.L4.{L4}
@@ -21,10 +24,11 @@ use Rattle.xlat46.specs.Whole.{Parts4, IsCarried4, ArePorts, lacks_sum, has_no_s
 use Rattle.xlat46.proofs.RightSums.{computed}
 use Rattle.xlat64.specs.Whole.{Parts6, IsCarried6, sum64, payload64, packet64}
 use Rattle.xlat64.proofs.RightSums.{changed as right_over_ipv4}
+use Rattle.icmp_xlat.specs.declared.ends.Ends.{Ends}
 use Rattle.packets.specs.declared.packet4.Content4.{Content4}
 use Rattle.packets.specs.declared.packet4.Content4.TheVariants.{Segment as Segment4}
 use Rattle.packets.specs.declared.packet6.Content6.{Content6}
-use Rattle.packets.specs.declared.packet6.Content6.TheVariants.{Later as Later6}
+use Rattle.packets.specs.declared.packet6.Content6.TheVariants.{Segment as Segment6, Later as Later6}
 use Rattle.packets.specs.declared.packet6.Packet6.{Packet6}
 use Rattle.packets.specs.Packet4.{IsContent4, IsSegment4}
 use Rattle.packets.specs.Packet6.{IsPacket6}
@@ -222,6 +226,20 @@ pub record ReadsFlow (q : Content6) (proto : Proto) (ports : Ports) : Type 0 whe
   pub proto_is : (flow_of6 q).proto ≡ proto
   pub ports_are : (flow_of6 q).ports ≡ ports
   pub no_later : (other : Proto) → q ≡ Later6 other → ⊥
+  -- it is translated by its outer ends alone
+  pub outer : (mtus : Mtus) (head : Head6) (payload : List ℕ) (one other : Ends Addr4) (id : ℕ) → one.src ≡ other.src → one.dst ≡ other.dst → one.ports ≡ other.ports
+      → translation64 mtus head payload one id q ≡ translation64 mtus head payload other id q
+
+pub outer_segment : (proto : Proto) (l4 : L4) (mtus : Mtus) (head : Head6) (payload : List ℕ) (one other : Ends Addr4) (id : ℕ) → one.src ≡ other.src → one.dst ≡ other.dst → one.ports ≡ other.ports
+    → translation64 mtus head payload one id (Segment6 proto l4) ≡ translation64 mtus head payload other id (Segment6 proto l4)
+outer_segment proto l4 mtus head payload one other id src dst ports =
+    let q : Parts6 = record { head = head; proto = proto; payload = payload } in
+    ap (λ (a : Addr4). some_octets (packet64 q a one.dst (Some one.ports) id)) src
+    ∙ ap (λ (a : Addr4). some_octets (packet64 q other.src a (Some one.ports) id)) dst
+    ∙ ap (λ (p : Ports). some_octets (packet64 q other.src other.dst (Some p) id)) ports
+  where
+    some_octets : List ℕ → Option (List ℕ)
+    some_octets xs = Some xs
 
 pub segment_flow : (t : Transfer) (proto : Proto) (l4 : L4) (octets six : List ℕ) (at_relay : Bool) (q : Packet6) → t.taken.content ≡ Segment4 proto l4
     → IsTakenAs t octets → IsThere t six → IsPacket6 at_relay q six → ReadsFlow q.content proto t.six.ports
@@ -231,7 +249,7 @@ segment_flow t proto l4 octets six at_relay q e taken there is =
     let over = payload_there t proto in
     let one = one_segment at_relay (head_there t (length over)) over proto q.content laid.number.six laid.carries.there.no_icmp (offset_there h ∙ laid.carries.first) (laid_inside t octets over six at_relay q taken laid.laid is) in
     subst (λ (c : Content6). ReadsFlow c proto t.six.ports) (sym one.is)
-    (record { fault = refl; proto_is = refl; ports_are = ap (λ (l : L4). l.ports) one.l4_is ∙ (again_of t proto laid.carries).ports_are; no_later = λ other later. cc })
+    (record { fault = refl; proto_is = refl; ports_are = ap (λ (l : L4). l.ports) one.l4_is ∙ (again_of t proto laid.carries).ports_are; no_later = λ other later. cc; outer = λ mtus head payload ends other id src dst ports. outer_segment proto one.l4 mtus head payload ends other id src dst ports })
 
 pub segment_crosses : (t : Transfer) (proto : Proto) (l4 : L4) (octets six four : List ℕ) (at_relay : Bool) (q : Packet6) → t.taken.content ≡ Segment4 proto l4
     → IsTakenAs t octets → IsThere t six → IsBack t at_relay q six four → ComesOf (crossing_of t) uncut four

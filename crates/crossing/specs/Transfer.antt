@@ -93,7 +93,9 @@ pub record IsPieceThere (t : Transfer) (at : ℕ) (six : List ℕ) : Type 0 wher
   pub pieces : List Parcel
   pub cut : AreCutOf octets t.mtus.mtu6 t.taken.head.id pieces
   pub k : ℕ
-  pub found : slice_get pieces k ≡ Some (record { place = 0; bytes = six })
+  pub piece : Parcel
+  pub found : slice_get pieces k ≡ Some piece
+  pub bytes : piece.bytes ≡ six
   pub begins : at ≡ k * step_of t.mtus.mtu6
 
 abbrev pub IsSentThere : Transfer → Portion → List ℕ → Type 0

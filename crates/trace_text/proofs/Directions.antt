@@ -61,7 +61,7 @@ address_told Spoofed a e = cc
 address_told NotDefault a e = cc
 
 -- the source that the relay accepts
-sourced : (relay : Relay) (s : Addr6) (port : ℕ) (a : Addr4) → source_of relay s port ≡ Some a → ipv4_behind relay.dmr s.0 ≡ Some a.0
+pub sourced : (relay : Relay) (s : Addr6) (port : ℕ) (a : Addr4) → source_of relay s port ≡ Some a → ipv4_behind relay.dmr s.0 ≡ Some a.0
 sourced relay s port a e = by (has_addr6 relay.dmr.prefix s.0) e
   where
     by : (b : Bool) → cond b None (address_in (far_of relay.rules relay.dmr s.0 port)) ≡ Some a → ipv4_behind relay.dmr s.0 ≡ Some a.0
@@ -74,16 +74,16 @@ found_told Spoofed a e = cc
 found_told NotDefault a e = cc
 
 -- the address behind an IPv6 address that an edge accepts
-behind_holds : (book : Generation) (dmr : Dmr) (s port : ℕ) (a : Addr4) → book.dmr ≡ dmr → behind book s port ≡ Ok a → ipv4_behind dmr s ≡ Some a.0
+pub behind_holds : (book : Generation) (dmr : Dmr) (s port : ℕ) (a : Addr4) → book.dmr ≡ dmr → behind book s port ≡ Ok a → ipv4_behind dmr s ≡ Some a.0
 unfolding behind
 behind_holds book dmr s port a fixed e = subst (λ (d : Dmr). ipv4_behind d s ≡ Some a.0) fixed (accepted book.rules book.dmr s port a (found_told (far_of book.rules book.dmr s port) a e))
 
 -- what an edge's way out tells: both addresses over IPv6 hold those over IPv4
-record HoldsOut (dmr : Dmr) (from dst : Addr4) (src6 dst6 : Addr6) : Type 0 where
-  source : ipv4_behind dmr src6.0 ≡ Some from.0
-  destination : ipv4_behind dmr dst6.0 ≡ Some dst.0
+pub record HoldsOut (dmr : Dmr) (from dst : Addr4) (src6 dst6 : Addr6) : Type 0 where
+  pub source : ipv4_behind dmr src6.0 ≡ Some from.0
+  pub destination : ipv4_behind dmr dst6.0 ≡ Some dst.0
 
-holds_out : (dmr : Dmr) (step : Step) (dst : Addr4) (from : Addr4) (port : ℕ) (src6 dst6 : Addr6) (freed : List Parcel) → AreRulesOf dmr (rules_of_step step) → dst.0 < 2 ^ 32
+pub holds_out : (dmr : Dmr) (step : Step) (dst : Addr4) (from : Addr4) (port : ℕ) (src6 dst6 : Addr6) (freed : List Parcel) → AreRulesOf dmr (rules_of_step step) → dst.0 < 2 ^ 32
     → AnsweredOut step dst (Out from port src6 dst6 freed) → HoldsOut dmr from dst src6 dst6
 holds_out dmr step dst from port src6 dst6 freed rules fits answered =
     let way = way_out step.prefix step.state step.moment answered.fault answered.proto answered.near (record { addr = dst; port = answered.port }) answered.flags answered.part freed from port src6 dst6 answered.is in
@@ -99,7 +99,7 @@ holds_out dmr step dst from port src6 dst6 freed rules fits answered =
 
 -- ---- what comes of a transfer
 
-replaced_is : (p : Packet4) (ends : Ends Addr4) (src dst : Addr4) (content : Content4) → ends.src ≡ src → ends.dst ≡ dst → content_with ends p.content ≡ content
+pub replaced_is : (p : Packet4) (ends : Ends Addr4) (src dst : Addr4) (content : Content4) → ends.src ≡ src → ends.dst ≡ dst → content_with ends p.content ≡ content
     → packet_with ends p ≡ record { head = record p.head { src = src; dst = dst }; content = content }
 replaced_is p ends src dst content is_src is_dst is_content =
     ap (λ (a : Addr4). record { head = record p.head { src = a; dst = ends.dst }; content = content_with ends p.content }) is_src
@@ -121,14 +121,14 @@ transfer setting c six four = record {
 taken_as : (setting : Setting) (c : Passed) (six : Ends Addr6) (four : Ends Addr4) → IsTaken4 c.taken c.octets → FitsEnds six → IsTakenAs (transfer setting c six four) c.octets
 taken_as setting c six four taken fits = record { is = taken.is; payload = refl; fits = head_fits c.taken.head c.octets taken.are taken.is.is.fields; inner = content_fits c.taken.content c.taken.head.dst (within c.taken c.octets taken); six = fits }
 
-back_with : (mtus domain_mtus : Mtus) (id domain_id : ℕ) (q : Packet6) (six four : List ℕ) (ends : Ends Addr4) → mtus ≡ domain_mtus → id ≡ domain_id
+pub back_with : (mtus domain_mtus : Mtus) (id domain_id : ℕ) (q : Packet6) (six four : List ℕ) (ends : Ends Addr4) → mtus ≡ domain_mtus → id ≡ domain_id
     → translation64 mtus q.head (payload_of6 q.head six) ends id q.content ≡ Some four → translation64 domain_mtus q.head (payload_of6 q.head six) ends domain_id q.content ≡ Some four
 back_with mtus domain_mtus id domain_id q six four ends one other is =
     subst (λ (n : ℕ). translation64 domain_mtus q.head (payload_of6 q.head six) ends n q.content ≡ Some four) other
     (subst (λ (m : Mtus). translation64 m q.head (payload_of6 q.head six) ends id q.content ≡ Some four) one is)
 
 -- what goes over the access network is the packet, or one of its pieces
-not_rigid : (a b : Bool) → (a || b) ≡ false → b ≡ false
+pub not_rigid : (a b : Bool) → (a || b) ≡ false → b ≡ false
 not_rigid true b e = absurd (false≢true (sym e))
 not_rigid false b e = e
 
@@ -142,8 +142,10 @@ sent_there t (Cut pieces) (piece_at at) six small is emitted = record {
   pieces = pieces;
   cut = is.1.4;
   k = emitted.0;
-  found = emitted.1;
-  begins = emitted.2;
+  piece = emitted.1;
+  found = emitted.2;
+  bytes = emitted.3;
+  begins = emitted.4;
 }
 sent_there t (Sent octets) (piece_at at) six small is emitted = absurd emitted
 sent_there t (Cut pieces) uncut six small is emitted = absurd emitted
@@ -183,34 +185,34 @@ comes_of setting c six four at_relay src dst content is arrives lasts makes is_s
 
 -- ---- the ends of what an error embeds
 
-ports_same : (content : Content4) (ports : Ports) → PortsAre content ports ports
+pub ports_same : (content : Content4) (ports : Ports) → PortsAre content ports ports
 ports_same (Segment proto l4) ports = refl
 ports_same (Later proto) ports = tt
 ports_same (Query m row) ports = refl
 ports_same (Error m row inner) ports = refl
 
 -- the source and the destination of an embedded packet, and else this
-abbrev near_inner : Content4 → Addr4 → Addr4
+abbrev pub near_inner : Content4 → Addr4 → Addr4
 near_inner (Error m row inner) other = inner.head.src
 near_inner _ other = other
 
-abbrev far_inner : Content4 → Addr4 → Addr4
+abbrev pub far_inner : Content4 → Addr4 → Addr4
 far_inner (Error m row inner) other = inner.head.dst
 far_inner _ other = other
 
-out_given : (content : Content4) (ends : Ends Addr4) (from : Addr4) → ends.inner_src ≡ near_inner content from → ends.inner_dst ≡ from → InnerOut content ends from
+pub out_given : (content : Content4) (ends : Ends Addr4) (from : Addr4) → ends.inner_src ≡ near_inner content from → ends.inner_dst ≡ from → InnerOut content ends from
 out_given (Segment proto l4) ends from one other = tt
 out_given (Later proto) ends from one other = tt
 out_given (Query m row) ends from one other = tt
 out_given (Error m row inner) ends from one other = (one, other)
 
-in_given : (content : Content4) (ends : Ends Addr4) (to : Addr4) → ends.inner_src ≡ to → ends.inner_dst ≡ far_inner content to → InnerIn content ends to
+pub in_given : (content : Content4) (ends : Ends Addr4) (to : Addr4) → ends.inner_src ≡ to → ends.inner_dst ≡ far_inner content to → InnerIn content ends to
 in_given (Segment proto l4) ends to one other = tt
 in_given (Later proto) ends to one other = tt
 in_given (Query m row) ends to one other = tt
 in_given (Error m row inner) ends to one other = (one, other)
 
-both_ends : (content : Content4) (ends : Ends Addr4) (from to : Addr4) → ends.inner_src ≡ to → ends.inner_dst ≡ from → InnerBoth content ends from to
+pub both_ends : (content : Content4) (ends : Ends Addr4) (from to : Addr4) → ends.inner_src ≡ to → ends.inner_dst ≡ from → InnerBoth content ends from to
 both_ends (Segment proto l4) ends from to one other = tt
 both_ends (Later proto) ends from to one other = tt
 both_ends (Query m row) ends from to one other = tt
@@ -297,7 +299,7 @@ to_relay setting step (Refused cause freed) relay c is = absurd is.sent
 -- ---- to an edge
 
 -- the address that the edge finds behind the source
-from_told : (setting : Setting) (step : Step) (q : Packet6) (to : Addr4) (port : ℕ) (from peer : Addr4) (freed : List Parcel) → AreRulesOf setting.dmr (rules_of_step step)
+pub from_told : (setting : Setting) (step : Step) (q : Packet6) (to : Addr4) (port : ℕ) (from peer : Addr4) (freed : List Parcel) → AreRulesOf setting.dmr (rules_of_step step)
     → AnsweredIn step q.head.src (near_addr6 q q.content) (In to port from peer freed) → ipv4_behind setting.dmr q.head.src.0 ≡ Some from.0
 from_told setting step q to port from peer freed rules answered =
     let way = way_in step.prefix step.state step.moment answered.fault answered.proto answered.port answered.dst q.head.src (near_addr6 q q.content) answered.far_port answered.flags answered.part freed to port from peer answered.is in

@@ -10,6 +10,7 @@ use Rattle.map_rules.specs.declared.rule.Rule.{Rule}
 use Rattle.map_rules.specs.declared.dmr.Dmr.{Dmr}
 use Rattle.rule_book.specs.Valid.{IsValid}
 use Rattle.nat_model.specs.declared.answer.Answer.{Answer}
+use Rattle.nat_model.specs.declared.ask.Ask.{Ask}
 use Rattle.nat_model.specs.declared.ask.Ask.TheVariants.{Outward, Inward}
 use Rattle.nat_model.specs.declared.ask.End4.{End4}
 use Rattle.nat_model.specs.declared.ask.Far.TheVariants.{Six}
@@ -23,9 +24,12 @@ pub record Step : Type 0 where
   pub state : NatState
   pub moment : Moment
 
--- the rules by which it answers
+-- the rules by which it answers, and its answer to an ask
 abbrev pub rules_of_step : Step → Generation
 rules_of_step step = (renewed step.prefix step.moment.seen step.state).book
+
+abbrev pub answer_to : Step → Ask → Answer
+answer_to step ask = (nat step.prefix step.state step.moment ask).answer
 
 -- rules that a book may have, beside this default mapping rule, which never changes
 pub record AreRulesOf (dmr : Dmr) (book : Generation) : Type 0 where
@@ -41,7 +45,7 @@ pub record AnsweredOut (step : Step) (dst : Addr4) (answer : Answer) : Type 0 wh
   pub port : ℕ
   pub flags : ℕ
   pub part : Part
-  pub is : (nat step.prefix step.state step.moment (Outward fault proto near (record { addr = dst; port = port }) flags part)).answer ≡ answer
+  pub is : answer_to step (Outward fault proto near (record { addr = dst; port = port }) flags part) ≡ answer
 
 -- the answer to a packet from this source, whose flow has this remote address
 pub record AnsweredIn (step : Step) (src peer : Addr6) (answer : Answer) : Type 0 where
@@ -52,4 +56,4 @@ pub record AnsweredIn (step : Step) (src peer : Addr6) (answer : Answer) : Type 
   pub far_port : ℕ
   pub flags : ℕ
   pub part : Part
-  pub is : (nat step.prefix step.state step.moment (Inward fault proto port (Six dst src peer far_port) flags part)).answer ≡ answer
+  pub is : answer_to step (Inward fault proto port (Six dst src peer far_port) flags part) ≡ answer

@@ -5,6 +5,7 @@ use Rattle.octets.specs.Field.{octet}
 use Rattle.octets.specs.declared.address.Addr4.{Addr4}
 use Rattle.octets.specs.declared.address.Addr6.{Addr6}
 use Rattle.octets.specs.declared.mtus.Mtus.{Mtus}
+use Rattle.octets.specs.declared.parcel.Parcel.{Parcel}
 use Rattle.octets.specs.declared.proto.Proto.{Proto}
 use Rattle.ip4_packet.specs.Grammar.{payload_of4}
 use Rattle.ip6_packet.specs.Grammar.{payload_of6}
@@ -69,7 +70,7 @@ EdgeReceives mtus id _ q six passage = ⊥
 abbrev pub IsEmitted : Mtus → Passage → Portion → List ℕ → Type 0
 IsEmitted mtus (Sent octets) uncut six = octets ≡ six
 IsEmitted mtus (Cut pieces) (piece_at at) six =
-    (k : ℕ) × (slice_get pieces k ≡ Some (record { place = 0; bytes = six })) × (at ≡ k * step_of mtus.mtu6)
+    (k : ℕ) × (piece : Parcel) × (slice_get pieces k ≡ Some piece) × (piece.bytes ≡ six) × (at ≡ k * step_of mtus.mtu6)
 IsEmitted mtus _ _ six = ⊥
 
 -- By the addresses of its rules the relay sends a packet of the core to an edge, and one of an edge to the core.

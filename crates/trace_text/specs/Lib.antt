@@ -2,3 +2,5 @@ pub mod Answered
 pub mod Behind
 pub mod Hops
 pub mod Crossings
+pub mod Pieces
+pub mod Relayed
