@@ -2,6 +2,7 @@
 
 use super::texts::{DOMAIN, EDGE, RULE, fault_of, repeated};
 use crate::{SetupCause, SetupFault};
+use std::alloc::{AllocError, Global};
 use std::test::Fail;
 
 const SHAPELESS: &str =
@@ -222,25 +223,30 @@ fn faults_are_told_by_the_order_of_their_causes(rt: HostRuntime) -> Result<(), F
     Ok(())
 }
 
-/// As many tables of a kind as there may be, which are none, and one more: this is told before all but a text that is no
-/// TOML.
+/// Whether as many tables of a kind as there may be, which are none, are refused for this cause, and one more as too many:
+/// that is told before all but a text that is no TOML.
+fn are_bounded(
+    alloc: Global,
+    table: &str,
+    count: u32,
+    cause: SetupCause,
+) -> Result<bool, AllocError> {
+    let most = repeated(alloc, table, count)?;
+    let within = fault_of(alloc, &[DOMAIN, most.as_str()])?;
+    let over = fault_of(alloc, &["other = 1\n", most.as_str(), table])?;
+    let no_toml = fault_of(alloc, &[most.as_str(), table, "["])?;
+    let as_within = within == Some(SetupFault::Refused(cause, 0));
+    let as_over = over == Some(SetupFault::Refused(SetupCause::TooMany, 0));
+    let as_no_toml = no_toml == Some(SetupFault::Refused(SetupCause::NotToml, 0));
+    Ok(as_within && as_over && as_no_toml)
+}
+
 #[test]
 fn too_many_tables_are_told(rt: HostRuntime) -> Result<(), Fail> {
     let alloc = rt.alloc();
-    let tables = [
-        ("[[rule]]\n", 256u32, SetupCause::BadRule),
-        ("[[edge]]\n", 256, SetupCause::BadEdge),
-        ("[[forward]]\n", 256, SetupCause::BadForward),
-        ("[[change]]\n", 64, SetupCause::BadChange),
-    ];
-    for (table, count, cause) in &tables {
-        let most = repeated(alloc, table, *count)?;
-        let fault = fault_of(alloc, &[DOMAIN, most.as_str()])?;
-        assert!(rt; fault == Some(SetupFault::Refused(*cause, 0)));
-        let fault = fault_of(alloc, &["other = 1\n", most.as_str(), table])?;
-        assert!(rt; fault == Some(SetupFault::Refused(SetupCause::TooMany, 0)));
-        let fault = fault_of(alloc, &[most.as_str(), table, "["])?;
-        assert!(rt; fault == Some(SetupFault::Refused(SetupCause::NotToml, 0)));
-    }
+    assert!(rt; are_bounded(alloc, "[[rule]]\n", 256, SetupCause::BadRule)?);
+    assert!(rt; are_bounded(alloc, "[[edge]]\n", 256, SetupCause::BadEdge)?);
+    assert!(rt; are_bounded(alloc, "[[forward]]\n", 256, SetupCause::BadForward)?);
+    assert!(rt; are_bounded(alloc, "[[change]]\n", 64, SetupCause::BadChange)?);
     Ok(())
 }

@@ -292,44 +292,69 @@ fn refuses(
 }
 
 #[test]
-fn keys_that_are_none(rt: HostRuntime) -> Result<(), Fail> {
+fn domains_rules_and_edges_that_are_none(rt: HostRuntime) -> Result<(), Fail> {
     let alloc = rt.alloc();
     let home = [DOMAIN, RULE, EDGE];
-    let tables = [
-        (
+    assert!(rt;
+        refuses(
+            alloc,
+            &[],
             &THE_DOMAIN,
-            NO_DOMAIN.as_slice(),
+            &NO_DOMAIN,
             SetupCause::BadDomain,
-            0u32,
-        ),
-        (&A_RULE, NO_RULE.as_slice(), SetupCause::BadRule, 1),
-        (&AN_EDGE, NO_EDGE.as_slice(), SetupCause::BadEdge, 1),
-        (&A_FORWARD, NO_FORWARD.as_slice(), SetupCause::BadForward, 0),
-        (&A_FORWARD, NO_NAME.as_slice(), SetupCause::ForwardEdge, 0),
-        (&A_FORWARD, NO_PORT.as_slice(), SetupCause::ForwardPort, 0),
-        (&A_REMOVAL, NO_REMOVAL.as_slice(), SetupCause::BadChange, 0),
-        (
-            &A_REMOVAL,
-            NO_SUCH_RULE.as_slice(),
-            SetupCause::ChangeRefused,
-            0,
-        ),
-        (
-            &AN_ADDITION,
-            NO_ADDITION.as_slice(),
-            SetupCause::BadChange,
-            0,
-        ),
-        (
-            &AN_ADDITION,
-            REFUSED_ADDITION.as_slice(),
-            SetupCause::ChangeRefused,
-            0,
-        ),
-    ];
-    for (i, (table, others, cause, place)) in tables.iter().enumerate() {
-        let before = if i == 0 { &home[..0] } else { &home[..] };
-        assert!(rt; refuses(alloc, before, table, others, *cause, *place)?);
-    }
+            0
+        )?
+    );
+    assert!(rt; refuses(alloc, &home, &A_RULE, &NO_RULE, SetupCause::BadRule, 1)?);
+    assert!(rt; refuses(alloc, &home, &AN_EDGE, &NO_EDGE, SetupCause::BadEdge, 1)?);
+    Ok(())
+}
+
+#[test]
+fn forwards_that_are_none(rt: HostRuntime) -> Result<(), Fail> {
+    let alloc = rt.alloc();
+    let home = [DOMAIN, RULE, EDGE];
+    assert!(rt;
+        refuses(
+            alloc,
+            &home,
+            &A_FORWARD,
+            &NO_FORWARD,
+            SetupCause::BadForward,
+            0
+        )?
+    );
+    assert!(rt;
+        refuses(
+            alloc,
+            &home,
+            &A_FORWARD,
+            &NO_NAME,
+            SetupCause::ForwardEdge,
+            0
+        )?
+    );
+    assert!(rt;
+        refuses(
+            alloc,
+            &home,
+            &A_FORWARD,
+            &NO_PORT,
+            SetupCause::ForwardPort,
+            0
+        )?
+    );
+    Ok(())
+}
+
+#[test]
+fn changes_that_are_none(rt: HostRuntime) -> Result<(), Fail> {
+    let alloc = rt.alloc();
+    let home = [DOMAIN, RULE, EDGE];
+    let (bad, refused) = (SetupCause::BadChange, SetupCause::ChangeRefused);
+    assert!(rt; refuses(alloc, &home, &A_REMOVAL, &NO_REMOVAL, bad, 0)?);
+    assert!(rt; refuses(alloc, &home, &A_REMOVAL, &NO_SUCH_RULE, refused, 0)?);
+    assert!(rt; refuses(alloc, &home, &AN_ADDITION, &NO_ADDITION, bad, 0)?);
+    assert!(rt; refuses(alloc, &home, &AN_ADDITION, &REFUSED_ADDITION, refused, 0)?);
     Ok(())
 }
