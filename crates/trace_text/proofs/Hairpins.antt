@@ -1,0 +1,178 @@
+-- Crossings, computed: a UDP packet of 192.168.1.10:5000 at the home, which holds 192.0.2.18 and port 1232, to port 1236 of that
+-- address, which another edge forwards to its host 192.168.1.20:8080. It crosses twice, since the relay turns it, or once from edge
+-- to edge. The octets of each packet were computed apart from this program.
+use Rattle.std.proofs.Common.{◌≡◌, ℕ, false, List, [], ◌∷◌, Some, refl, arith}
+use Rattle.std.proofs.lemmas.Bool.{false≢true}
+use Rattle.octets.specs.declared.address.Addr4.{Addr4}
+use Rattle.octets.specs.declared.mtus.Mtus.{Mtus}
+use Rattle.octets.specs.declared.proto.Proto.TheVariants.{Udp}
+use Rattle.ip4_packet.specs.declared.head.Head4.{Head4}
+use Rattle.l4_headers.specs.Transport.{l4_of}
+use Rattle.nat_model.specs.declared.answer.Answer.{Answer}
+use Rattle.nat_model.specs.declared.answer.Answer.TheVariants.{Out, In}
+use Rattle.packets.specs.declared.packet4.Content4.TheVariants.{Segment}
+use Rattle.packets.specs.declared.packet4.Packet4.{Packet4}
+use Rattle.crossing.specs.Nat44.{nat44, nat44_by, sent_from, received_at}
+use Rattle.crossing.specs.Named.{Crossing, Sent, Named, uncut}
+
+abbrev host : Addr4
+host = record { 0 = 0xc0a8_010a }
+
+abbrev shared : Addr4
+shared = record { 0 = 0xc000_0212 }
+
+abbrev other_host : Addr4
+other_host = record { 0 = 0xc0a8_0114 }
+
+abbrev mtus : Mtus
+mtus = record { mtu4 = 1500; mtu6 = 1500; least4 = omega arith; most4 = omega arith; least6 = omega arith; most6 = omega arith }
+
+-- the home's machine sends the packet from port 1232, to the shared address embedded; the other one's takes it in
+abbrev goes_out : Answer
+goes_out =
+    Out shared 1232 (record { 0 = 0x2001_0db8_0012_3400_0000_c000_0212_0034 }) (record { 0 = 0x2001_0db8_ffff_0000_00c0_0002_1200_0000 }) []
+
+abbrev comes_in : Answer
+comes_in = In other_host 8080 shared shared []
+
+-- a header of 20 octets with this TTL and identification, and a datagram of two octets
+abbrev header : ℕ → ℕ → Addr4 → Addr4 → Head4
+header ttl id src dst = record {
+  tos = 0;
+  id = id;
+  df = false;
+  mf = false;
+  offset = 0;
+  ttl = ttl;
+  proto = 17;
+  src = src;
+  dst = dst;
+  head_len = 20;
+  total = 30;
+  routed = false;
+}
+
+abbrev packet : Head4 → List ℕ → Packet4
+packet head payload = record { head = head; content = Segment Udp (l4_of Udp payload) }
+
+-- from the host; between both crossings; and to the other host
+abbrev first : List ℕ
+first = 19 ∷ 136 ∷ 4 ∷ 212 ∷ 0 ∷ 10 ∷ 251 ∷ 79 ∷ 104 ∷ 105 ∷ []
+
+abbrev second : List ℕ
+second = 4 ∷ 208 ∷ 4 ∷ 212 ∷ 0 ∷ 10 ∷ 9 ∷ 168 ∷ 104 ∷ 105 ∷ []
+
+abbrev third : List ℕ
+third = 4 ∷ 208 ∷ 31 ∷ 144 ∷ 0 ∷ 10 ∷ 239 ∷ 65 ∷ 104 ∷ 105 ∷ []
+
+abbrev of_host : Packet4
+of_host = packet (header 64 1 host shared) first
+
+abbrev turned : Packet4
+turned = packet (header 62 0 shared shared) second
+
+-- record 0 of a replay, where this packet came and its address and port were replaced so
+abbrev crossing : Packet4 → List ℕ → Packet4 → Crossing
+crossing taken payload replaced = record { taken = taken; payload = payload; replaced = replaced; mtus = mtus; number = 0 }
+
+-- ---- from the home to the relay, which turns it
+
+pub the_home_replaces_its_source : nat44 of_host goes_out ≡ Some (sent_from shared 1232 of_host)
+the_home_replaces_its_source = refl
+
+abbrev to_the_relay : Sent
+to_the_relay = record {
+  head = header 62 0 shared shared;
+  payload = second;
+  octets =
+      69 ∷ 0 ∷ 0 ∷ 30 ∷ 0 ∷ 0 ∷ 0 ∷ 0 ∷ 62 ∷ 17 ∷ 248 ∷ 170 ∷ 192 ∷ 0 ∷ 2 ∷ 18 ∷ 192 ∷ 0 ∷ 2 ∷ 18
+      ∷ 4 ∷ 208 ∷ 4 ∷ 212 ∷ 0 ∷ 10 ∷ 9 ∷ 168 ∷ 104 ∷ 105 ∷ [];
+}
+
+pub it_crosses_to_the_relay : Named (crossing of_host first (sent_from shared 1232 of_host)) uncut second to_the_relay
+it_crosses_to_the_relay = record {
+  octets = refl;
+  routed = refl;
+  head_len = refl;
+  total = refl;
+  ttl = refl;
+  id = refl;
+  df = refl;
+  payload = record { sum = 0x09a8; rest = refl; changed = λ e. refl; missing = λ e. absurd (false≢true e) };
+  part = refl;
+  offset = refl;
+  more = refl;
+  tos = refl;
+  proto = refl;
+  src = refl;
+  dst = refl;
+}
+
+-- ---- from the relay, which turned it, to the other edge
+
+pub the_other_edge_replaces_its_destination : nat44 turned comes_in ≡ Some (received_at other_host 8080 turned)
+the_other_edge_replaces_its_destination = refl
+
+abbrev from_the_relay : Sent
+from_the_relay = record {
+  head = header 60 0 shared other_host;
+  payload = third;
+  octets =
+      69 ∷ 0 ∷ 0 ∷ 30 ∷ 0 ∷ 0 ∷ 0 ∷ 0 ∷ 60 ∷ 17 ∷ 251 ∷ 0 ∷ 192 ∷ 0 ∷ 2 ∷ 18 ∷ 192 ∷ 168 ∷ 1 ∷ 20
+      ∷ 4 ∷ 208 ∷ 31 ∷ 144 ∷ 0 ∷ 10 ∷ 239 ∷ 65 ∷ 104 ∷ 105 ∷ [];
+}
+
+pub it_crosses_from_the_relay : Named (crossing turned second (received_at other_host 8080 turned)) uncut third from_the_relay
+it_crosses_from_the_relay = record {
+  octets = refl;
+  routed = refl;
+  head_len = refl;
+  total = refl;
+  ttl = refl;
+  id = refl;
+  df = refl;
+  payload = record { sum = 0xef41; rest = refl; changed = λ e. refl; missing = λ e. absurd (false≢true e) };
+  part = refl;
+  offset = refl;
+  more = refl;
+  tos = refl;
+  proto = refl;
+  src = refl;
+  dst = refl;
+}
+
+-- ---- from edge to edge, by a forwarding rule: both answers in turn, and one crossing
+
+abbrev from_edge_to_edge : Packet4
+from_edge_to_edge = received_at other_host 8080 (sent_from shared 1232 of_host)
+
+pub both_edges_replace_an_end : nat44_by of_host (goes_out ∷ comes_in ∷ []) ≡ Some from_edge_to_edge
+both_edges_replace_an_end = refl
+
+abbrev straight : Sent
+straight = record {
+  head = header 62 0 shared other_host;
+  payload = third;
+  octets =
+      69 ∷ 0 ∷ 0 ∷ 30 ∷ 0 ∷ 0 ∷ 0 ∷ 0 ∷ 62 ∷ 17 ∷ 249 ∷ 0 ∷ 192 ∷ 0 ∷ 2 ∷ 18 ∷ 192 ∷ 168 ∷ 1 ∷ 20
+      ∷ 4 ∷ 208 ∷ 31 ∷ 144 ∷ 0 ∷ 10 ∷ 239 ∷ 65 ∷ 104 ∷ 105 ∷ [];
+}
+
+pub it_crosses_from_edge_to_edge : Named (crossing of_host first from_edge_to_edge) uncut third straight
+it_crosses_from_edge_to_edge = record {
+  octets = refl;
+  routed = refl;
+  head_len = refl;
+  total = refl;
+  ttl = refl;
+  id = refl;
+  df = refl;
+  payload = record { sum = 0xef41; rest = refl; changed = λ e. refl; missing = λ e. absurd (false≢true e) };
+  part = refl;
+  offset = refl;
+  more = refl;
+  tos = refl;
+  proto = refl;
+  src = refl;
+  dst = refl;
+}
