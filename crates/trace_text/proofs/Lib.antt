@@ -5,5 +5,5 @@ pub mod Ports
 pub mod Directions
 pub mod Whole
 pub mod Relayed
-pub mod Hairpins
+pub mod Computed
 pub mod Trials

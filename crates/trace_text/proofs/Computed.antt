@@ -1,6 +1,6 @@
 -- Crossings, computed: a UDP packet of 192.168.1.10:5000 at the home, which holds 192.0.2.18 and port 1232, to port 1236 of that
 -- address, which another edge forwards to its host 192.168.1.20:8080. It crosses twice, since the relay turns it, or once from edge
--- to edge. The octets of each packet were computed apart from this program.
+-- to edge. And an ICMP error about a packet of the host. The octets of each packet were computed apart from this program.
 use Rattle.std.proofs.Common.{◌≡◌, ℕ, false, List, [], ◌∷◌, Some, refl, arith}
 use Rattle.std.proofs.lemmas.Bool.{false≢true}
 use Rattle.octets.specs.declared.address.Addr4.{Addr4}
@@ -8,9 +8,14 @@ use Rattle.octets.specs.declared.mtus.Mtus.{Mtus}
 use Rattle.octets.specs.declared.proto.Proto.TheVariants.{Udp}
 use Rattle.ip4_packet.specs.declared.head.Head4.{Head4}
 use Rattle.l4_headers.specs.Transport.{l4_of}
+use Rattle.icmp_messages.specs.declared.icmp4.Icmp4.{Icmp4}
+use Rattle.icmp_messages.specs.declared.inner4.Inner4.{Inner4}
+use Rattle.icmp_messages.specs.Message.{message4}
+use Rattle.icmp_xlat.specs.declared.table.Rest.TheVariants.{Zero}
+use Rattle.icmp_xlat.specs.Table.{row}
 use Rattle.nat_model.specs.declared.answer.Answer.{Answer}
 use Rattle.nat_model.specs.declared.answer.Answer.TheVariants.{Out, In}
-use Rattle.packets.specs.declared.packet4.Content4.TheVariants.{Segment}
+use Rattle.packets.specs.declared.packet4.Content4.TheVariants.{Segment, Error}
 use Rattle.packets.specs.declared.packet4.Packet4.{Packet4}
 use Rattle.crossing.specs.Nat44.{nat44, nat44_by, sent_from, received_at}
 use Rattle.crossing.specs.Named.{Crossing, Sent, Named, uncut}
@@ -168,6 +173,82 @@ it_crosses_from_edge_to_edge = record {
   id = refl;
   df = refl;
   payload = record { sum = 0xef41; rest = refl; changed = λ e. refl; missing = λ e. absurd (false≢true e) };
+  part = refl;
+  offset = refl;
+  more = refl;
+  tos = refl;
+  proto = refl;
+  src = refl;
+  dst = refl;
+}
+
+-- ---- an ICMP error of the router 198.51.100.9 in the core, from the relay to the home: a TTL is exceeded, of the home's packet from
+-- port 1232 to 198.51.100.7:53, which its host sent from port 5000
+
+abbrev router : Addr4
+router = record { 0 = 0xc633_6409 }
+
+abbrev server : Addr4
+server = record { 0 = 0xc633_6407 }
+
+abbrev comes_to_the_host : Answer
+comes_to_the_host = In host 5000 router server []
+
+abbrev embedded : Inner4
+embedded = record {
+  head = header 62 7 shared server;
+  payload = 4 ∷ 208 ∷ 0 ∷ 53 ∷ 0 ∷ 10 ∷ 166 ∷ 30 ∷ 104 ∷ 105 ∷ [];
+  ports = record { src = 1232; dst = 53 };
+  proto = Udp;
+}
+
+abbrev exceeded : List ℕ → Icmp4
+exceeded body = record { kind = 11; code = 0; rest = 0; body = body }
+
+abbrev in_core : Icmp4
+in_core = exceeded (69 ∷ 0 ∷ 0 ∷ 30 ∷ 0 ∷ 7 ∷ 0 ∷ 0 ∷ 62 ∷ 17 ∷ 144 ∷ 123 ∷ 192 ∷ 0 ∷ 2 ∷ 18 ∷ 198 ∷ 51 ∷ 100 ∷ 7
+    ∷ 4 ∷ 208 ∷ 0 ∷ 53 ∷ 0 ∷ 10 ∷ 166 ∷ 30 ∷ 104 ∷ 105 ∷ [])
+
+abbrev at_host : Icmp4
+at_host = exceeded (69 ∷ 0 ∷ 0 ∷ 30 ∷ 0 ∷ 0 ∷ 0 ∷ 0 ∷ 62 ∷ 17 ∷ 144 ∷ 226 ∷ 192 ∷ 168 ∷ 1 ∷ 10 ∷ 198 ∷ 51 ∷ 100 ∷ 7
+    ∷ 19 ∷ 136 ∷ 0 ∷ 53 ∷ 0 ∷ 10 ∷ 151 ∷ 198 ∷ 104 ∷ 105 ∷ [])
+
+abbrev message_head : ℕ → ℕ → Addr4 → Head4
+message_head ttl id dst = record (header ttl id router dst) { proto = 1; total = 58 }
+
+abbrev of_router : Packet4
+of_router = record { head = message_head 250 9 shared; content = Error in_core (row 11 0 3 0 Zero) embedded }
+
+pub the_home_replaces_what_it_embeds : nat44 of_router comes_to_the_host ≡ Some (received_at host 5000 of_router)
+the_home_replaces_what_it_embeds = refl
+
+abbrev to_the_host : Sent
+to_the_host = record {
+  head = message_head 248 0 host;
+  payload =
+      11 ∷ 0 ∷ 225 ∷ 8 ∷ 0 ∷ 0 ∷ 0 ∷ 0 ∷ 69 ∷ 0 ∷ 0 ∷ 30 ∷ 0 ∷ 0 ∷ 0 ∷ 0 ∷ 62 ∷ 17 ∷ 144 ∷ 226
+      ∷ 192 ∷ 168 ∷ 1 ∷ 10 ∷ 198 ∷ 51 ∷ 100 ∷ 7 ∷ 19 ∷ 136 ∷ 0 ∷ 53 ∷ 0 ∷ 10 ∷ 151 ∷ 198 ∷ 104 ∷ 105 ∷ [];
+  octets =
+      69 ∷ 0 ∷ 0 ∷ 58 ∷ 0 ∷ 0 ∷ 0 ∷ 0 ∷ 248 ∷ 1 ∷ 214 ∷ 211 ∷ 198 ∷ 51 ∷ 100 ∷ 9 ∷ 192 ∷ 168 ∷ 1 ∷ 10
+      ∷ 11 ∷ 0 ∷ 225 ∷ 8 ∷ 0 ∷ 0 ∷ 0 ∷ 0 ∷ 69 ∷ 0 ∷ 0 ∷ 30 ∷ 0 ∷ 0 ∷ 0 ∷ 0 ∷ 62 ∷ 17 ∷ 144 ∷ 226
+      ∷ 192 ∷ 168 ∷ 1 ∷ 10 ∷ 198 ∷ 51 ∷ 100 ∷ 7 ∷ 19 ∷ 136 ∷ 0 ∷ 53 ∷ 0 ∷ 10 ∷ 151 ∷ 198 ∷ 104 ∷ 105 ∷ [];
+}
+
+pub an_error_crosses : Named (crossing of_router (message4 in_core) (received_at host 5000 of_router)) uncut to_the_host.payload to_the_host
+an_error_crosses = record {
+  octets = refl;
+  routed = refl;
+  head_len = refl;
+  total = refl;
+  ttl = refl;
+  id = refl;
+  df = refl;
+  payload = record {
+    told = at_host;
+    message = record { there = row 11 0 3 0 Zero; back = row 3 0 11 0 Zero; first = refl; second = refl; kind = refl; code = refl; sum = refl };
+    rest = refl;
+    body = refl;
+  };
   part = refl;
   offset = refl;
   more = refl;
