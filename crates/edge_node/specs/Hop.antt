@@ -86,7 +86,8 @@ Turns node octets from port p hop =
 abbrev pub ComesIn : Node → List ℕ → Addr4 → ℕ → Addr4 → Addr4 → Packet6 → Hop → Type 0
 ComesIn node octets to port from peer p hop =
     (passage : Passage)
-    × IsPassage64 (record { mtus = node.params.mtus; ends = ends_in (flow_of6 p.content) to port from peer; id = node.id }) p (payload_of6 p.head octets) passage
+    × IsPassage64 (record { mtus = node.params.mtus; ends = ends_in (flow_of6 p.content) to port from peer; id = node.id })
+        p (payload_of6 p.head octets) passage
     × IsCarried (Drops node Access octets) ToLan passage hop
 
 -- what becomes of a packet from the LAN, from the access network, and of one that the edge turned
@@ -129,7 +130,8 @@ IsLaterAt Turned octets = (p : Packet4) × (proto : Proto) × IsPacket4 p octets
 -- The packet's own part of the hop. One that is dropped before anything is asked counts as refused.
 abbrev pub Own : Node → Way → Answer → List ℕ → Hop → Type 0
 Own node way answer octets hop =
-    Becomes node way answer octets hop ⊎ ((cause : Cause) × IsDroppedAt way cause octets × (answer ≡ Refused cause []) × Drops node way octets cause hop)
+    Becomes node way answer octets hop
+    ⊎ ((cause : Cause) × IsDroppedAt way cause octets × (answer ≡ Refused cause []) × Drops node way octets cause hop)
 
 -- The hop: the packet's own part, and then what becomes of the fragments that the answer freed, each with the same answer.
 abbrev pub IsEdgeHop : Node → Way → Answer → List ℕ → Hop → Type 0

@@ -69,7 +69,9 @@ changing s note answer = record { after = record s { notes = with_note note s.no
 
 -- the note of a new key is added where there are fewer than 256
 abbrev pub new_key : FragState → Note → FragAnswer → FragStep
-new_key s note answer = if nat_lt (length s.notes) most_notes then record { after = record s { notes = s.notes ++ note ∷ [] }; answer = answer } else answered s Full
+new_key s note answer =
+    if nat_lt (length s.notes) most_notes then record { after = record s { notes = s.notes ++ note ∷ [] }; answer = answer }
+    else answered s Full
 
 -- what a first fragment is told, by what waits for it: that is released in the order of arrival
 abbrev pub released : List Parcel → FragAnswer
@@ -83,7 +85,9 @@ first_again s note ports = changing s (record note { ports = Some ports; held = 
 -- a later fragment whose key has a note: its ports are known, or it is held where fewer than 16 are
 abbrev pub later_again : FragState → Note → Parcel → Option Ports → FragStep
 later_again s note parcel (Some ports) = answered s (Known ports)
-later_again s note parcel None = if nat_lt (length note.held) most_held then changing s (record note { held = note.held ++ parcel ∷ [] }) Held else answered s Full
+later_again s note parcel None =
+    if nat_lt (length note.held) most_held then changing s (record note { held = note.held ++ parcel ∷ [] }) Held
+    else answered s Full
 
 -- a first fragment
 abbrev pub first_step : FragState → FragKey → Ports → Option Note → FragStep

@@ -8,7 +8,8 @@ use Rattle.mapt_setup.specs.declared.fault.SetupFault.{SetupFault}
 use Rattle.mapt_setup.specs.declared.fault.SetupFault.TheVariants.{Refused, NoMemory}
 
 -- a first stage, and one that goes on with its value
-pub record IsThen {A B : Type 0} (first : Result A SetupFault → Type 0) (next : A → Result B SetupFault → Type 0) (result : Result B SetupFault) : Type 0 where
+pub record IsThen {A B : Type 0} (first : Result A SetupFault → Type 0) (next : A → Result B SetupFault → Type 0)
+    (result : Result B SetupFault) : Type 0 where
   pub value : A
   pub stage : first (Ok value)
   pub rest : next value result

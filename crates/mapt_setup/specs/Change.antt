@@ -17,7 +17,10 @@ use Rattle.mapt_setup.specs.Spelled.{HasPrefix6}
 -- what a word says to do
 abbrev pub verb_of : List ℕ → Option Verb
 verb_of word =
-    if pointwise nat_eq word (codes "add") then Some verb.Add else (if pointwise nat_eq word (codes "remove") then Some verb.Remove else (if pointwise nat_eq word (codes "replace") then Some verb.Replace else None))
+    if pointwise nat_eq word (codes "add") then Some verb.Add
+    else (if pointwise nat_eq word (codes "remove") then Some verb.Remove
+    else (if pointwise nat_eq word (codes "replace") then Some verb.Replace
+    else None))
 
 -- what the word at `action` says to do
 abbrev pub verb_at : Members → Option Verb

@@ -54,4 +54,6 @@ pub record FitsSetup (setup : Setup) (captures : List Capture) : Type 0 where
 -- the tests of these
 abbrev pub is_fitting : Setup → List Capture → Bool
 is_fitting setup captures =
-    list_all (λ (c : Capture). is_side_of setup c.side) captures && (is_none (first_after has_side_of captures) && (nat_le (records_count captures) most_records && list_all (λ (c : Capture). list_all is_writable c.records) captures))
+    list_all (λ (c : Capture). is_side_of setup c.side) captures
+    && (is_none (first_after has_side_of captures)
+    && (nat_le (records_count captures) most_records && list_all (λ (c : Capture). list_all is_writable c.records) captures))

@@ -16,7 +16,10 @@ forward_keys = codes "edge" ∷ codes "proto" ∷ codes "port" ∷ codes "host" 
 -- the protocol of a word
 abbrev pub proto_named : List ℕ → Option Proto
 proto_named word =
-    if pointwise nat_eq word (codes "udp") then Some Udp else (if pointwise nat_eq word (codes "tcp") then Some Tcp else (if pointwise nat_eq word (codes "icmp") then Some Icmp else None))
+    if pointwise nat_eq word (codes "udp") then Some Udp
+    else (if pointwise nat_eq word (codes "tcp") then Some Tcp
+    else (if pointwise nat_eq word (codes "icmp") then Some Icmp
+    else None))
 
 -- the protocol at a key
 abbrev pub proto_at : List ℕ → Members → Option Proto

@@ -9,7 +9,8 @@ use Rattle.mapt_setup.specs.declared.rule.RuleLine.{RuleLine}
 
 -- the line of an item that is a rule, with the offset of its port parameters, and 6 without any
 abbrev pub line_of : Item → List RuleLine
-line_of (item.Rule flag ea prefix4 prefix6 subs) = record { prefix6 = prefix6; prefix4 = prefix4; ea = ea; offset = offset_in subs; forward = flag } ∷ []
+line_of (item.Rule flag ea prefix4 prefix6 subs) =
+    record { prefix6 = prefix6; prefix4 = prefix4; ea = ea; offset = offset_in subs; forward = flag } ∷ []
 line_of (item.Dmr prefix) = []
 line_of (item.Other code octets) = []
 

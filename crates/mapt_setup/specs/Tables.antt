@@ -27,7 +27,10 @@ is_long most (Some tables) = nat_lt most (length tables)
 -- more than 256 rules, edges or forwards, or more than 64 changes
 abbrev pub has_too_many : Members → Bool
 has_too_many document =
-    is_long 256 (tables_at (codes "rule") document) || (is_long 256 (tables_at (codes "edge") document) || (is_long 256 (tables_at (codes "forward") document) || is_long 64 (tables_at (codes "change") document)))
+    is_long 256 (tables_at (codes "rule") document)
+    || (is_long 256 (tables_at (codes "edge") document)
+    || (is_long 256 (tables_at (codes "forward") document)
+    || is_long 64 (tables_at (codes "change") document)))
 
 -- what is told before any table is read
 abbrev pub early_fault : Members → Option SetupFault

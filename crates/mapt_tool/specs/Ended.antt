@@ -35,7 +35,8 @@ pub record ComesTo {A E : Type 0} (Step : List Read → Next A E → Type 0) (ol
   pub reached : Step reads next
 
 -- After some files the step wants this one, of which so many octets were handed out; so far the folder is as here.
-pub record Within {A E : Type 0} (Step : List Read → Next A E → Type 0) (old mid : FolderSeen) (file : FileId) (name : List ℕ) (limit part : ℕ) : Type 0 where
+pub record Within {A E : Type 0} (Step : List Read → Next A E → Type 0) (old mid : FolderSeen) (file : FileId) (name : List ℕ)
+    (limit part : ℕ) : Type 0 where
   pub reads : List Read
   pub seen : mid ≡ handing old (octets_of reads + part)
   pub told : AreToldOf old.files reads

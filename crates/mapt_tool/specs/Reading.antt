@@ -38,7 +38,8 @@ Reads file name limit reads (wants next named most) = (reads ≡ []) × (next �
 Reads file name limit reads lacks = reads ≡ []
 
 -- a first step gives a value, and the second one, which takes that, comes to this
-pub record Goes {A B E : Type 0} (First : List Read → Next A E → Type 0) (Second : A → List Read → Next B E → Type 0) (reads : List Read) (next : Next B E) : Type 0 where
+pub record Goes {A B E : Type 0} (First : List Read → Next A E → Type 0) (Second : A → List Read → Next B E → Type 0)
+    (reads : List Read) (next : Next B E) : Type 0 where
   pub value : A
   pub front : List Read
   pub back : List Read

@@ -32,7 +32,15 @@ claimed_port h wish bs =
 abbrev pub claim : ℕ → Wish → ℕ → Binding
 claim clock wish x =
     let deadline = clock + timer wish.proto false in
-    record { proto = wish.proto; host = wish.near.addr; host_port = wish.near.port; port = x; deadline = deadline; live = false; kept = false }
+    record {
+      proto = wish.proto;
+      host = wish.near.addr;
+      host_port = wish.near.port;
+      port = x;
+      deadline = deadline;
+      live = false;
+      kept = false;
+    }
 
 -- a binding, and all of them with it
 pub record Bound : Type 0 where

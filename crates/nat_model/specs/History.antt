@@ -80,7 +80,8 @@ IsGoodEntry-prop prefix books r e p q = λ i. record {
 }
 
 -- a history is good in at most one way
-pub AreGoodFrom-prop : (prefix : Prefix6) (books : List Generation) (r : Reached) (entries : List Entry) → IsProp (AreGoodFrom prefix books r entries)
+pub AreGoodFrom-prop : (prefix : Prefix6) (books : List Generation) (r : Reached) (entries : List Entry)
+    → IsProp (AreGoodFrom prefix books r entries)
 AreGoodFrom-prop prefix books r [] = Unit-prop
 AreGoodFrom-prop prefix books r (e ∷ entries) =
     ×_prop (IsGoodEntry-prop prefix books r e) (AreGoodFrom-prop prefix books (further prefix books r e) entries)

@@ -31,7 +31,11 @@ number_of TooBig = 23
 
 -- all causes, by rising number
 abbrev pub causes : List Cause
-causes = NotIp ∷ Truncated ∷ BadHeader ∷ BadHeaderSum ∷ BadDestination ∷ SourceRoute ∷ UnsupportedProtocol ∷ IcmpFragment ∷ BadTransport ∷ IcmpSum ∷ IcmpKind ∷ BadInner ∷ NoUdpSum ∷ NoBasicRule ∷ WrongDestination ∷ FragmentsFull ∷ Spoofed ∷ NotDefault ∷ NoOwner ∷ NoBinding ∷ NoPort ∷ TtlSpent ∷ TooBig ∷ []
+causes =
+    NotIp ∷ Truncated ∷ BadHeader ∷ BadHeaderSum ∷ BadDestination ∷ SourceRoute ∷ UnsupportedProtocol ∷ IcmpFragment
+    ∷ BadTransport ∷ IcmpSum ∷ IcmpKind ∷ BadInner ∷ NoUdpSum
+    ∷ NoBasicRule ∷ WrongDestination ∷ FragmentsFull ∷ Spoofed ∷ NotDefault ∷ NoOwner ∷ NoBinding ∷ NoPort
+    ∷ TtlSpent ∷ TooBig ∷ []
 
 -- the cause with this number
 abbrev pub cause_of : ℕ → Option Cause

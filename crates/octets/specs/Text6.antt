@@ -63,7 +63,8 @@ gap_at (c ∷ d ∷ cs) = if c == colon && d == colon then Some ([], cs) else op
 unfoldable pub groups_from : ℕ → ℕ → ℕ → List ℕ → Option (ℕ × ℕ)
 groups_from zero count n text = None
 groups_from (suc room) count n text =
-    or_else (cut_at colon text) (numeral_at 16 text >>= λ g. Some (count + 1, n * 65536 + g)) (λ parts. numeral_at 16 parts.0 >>= λ g. groups_from room (count + 1) (n * 65536 + g) parts.1)
+    or_else (cut_at colon text) (numeral_at 16 text >>= λ g. Some (count + 1, n * 65536 + g))
+        (λ parts. numeral_at 16 parts.0 >>= λ g. groups_from room (count + 1) (n * 65536 + g) parts.1)
 
 -- the groups beside a gap, of which there may be none
 unfoldable pub part_at : List ℕ → Option (ℕ × ℕ)
@@ -77,14 +78,16 @@ unfoldable pub whole_at : List ℕ → Option ℕ
 whole_at text = groups_from 8 0 0 text >>= λ found. if found.0 == 8 then Some found.1 else None
 
 unfoldable pub addr6_at : List ℕ → Option ℕ
-addr6_at text = or_else (gap_at text) (whole_at text) (λ parts. part_at parts.0 >>= λ left. part_at parts.1 >>= λ right. around_gap left right)
+addr6_at text =
+    or_else (gap_at text) (whole_at text) (λ parts. part_at parts.0 >>= λ left. part_at parts.1 >>= λ right. around_gap left right)
 
 -- ---- what is written
 
 -- the eight groups of an address
 abbrev pub groups_of : ℕ → List ℕ
 groups_of n =
-    bits_at 128 n 0 16 ∷ bits_at 128 n 16 16 ∷ bits_at 128 n 32 16 ∷ bits_at 128 n 48 16 ∷ bits_at 128 n 64 16 ∷ bits_at 128 n 80 16 ∷ bits_at 128 n 96 16 ∷ bits_at 128 n 112 16 ∷ []
+    bits_at 128 n 0 16 ∷ bits_at 128 n 16 16 ∷ bits_at 128 n 32 16 ∷ bits_at 128 n 48 16
+    ∷ bits_at 128 n 64 16 ∷ bits_at 128 n 80 16 ∷ bits_at 128 n 96 16 ∷ bits_at 128 n 112 16 ∷ []
 
 -- a group: its hexadecimal digits, in lower case and without leading zeros (sections 4.1 and 4.3)
 abbrev pub group_text : ℕ → List ℕ
@@ -115,7 +118,9 @@ longest_run (g ∷ gs) = longer (zeros_first (g ∷ gs)) (longest_run gs)
 
 -- the text of groups: `::` for that run, if it has two groups or more
 abbrev pub shortened : List ℕ → Run → List ℕ
-shortened groups run = if nat_lt run.len 2 then joined groups else joined (take run.start groups) ++ colon ∷ colon ∷ joined (drop (run.start + run.len) groups)
+shortened groups run =
+    if nat_lt run.len 2 then joined groups
+    else joined (take run.start groups) ++ colon ∷ colon ∷ joined (drop (run.start + run.len) groups)
 
 -- the address's canonical text
 unfoldable pub text6 : ℕ → List ℕ

@@ -40,7 +40,11 @@ Gives view (Err e) read = Fails e read
 -- the order and the unit, by the magic number as its first octet highest gives it
 abbrev pub way_of : ℕ → Option (Order × TimeUnit)
 way_of magic =
-    if magic == 0xa1b2c3d4 then Some (Big, Micro) else (if magic == 0xd4c3b2a1 then Some (Little, Micro) else (if magic == 0xa1b23c4d then Some (Big, Nano) else (if magic == 0x4d3cb2a1 then Some (Little, Nano) else None)))
+    if magic == 0xa1b2c3d4 then Some (Big, Micro)
+    else (if magic == 0xd4c3b2a1 then Some (Little, Micro)
+    else (if magic == 0xa1b23c4d then Some (Big, Nano)
+    else (if magic == 0x4d3cb2a1 then Some (Little, Nano)
+    else None)))
 
 unfoldable pub way_at : List ℕ → Result (Order × TimeUnit) CaptureFault
 way_at octets = if nat_lt (length octets) 24 then Err NotPcap else or_fault (way_of (number Big 0 4 octets)) NotPcap
@@ -51,7 +55,9 @@ version_at order octets =
 
 unfoldable pub link_at : Order → List ℕ → Result Link CaptureFault
 link_at order octets =
-    if link_in order octets == 1 then Ok Ethernet else (if link_in order octets == 101 then Ok Raw else Err (BadLink (link_in order octets)))
+    if link_in order octets == 1 then Ok Ethernet
+    else (if link_in order octets == 101 then Ok Raw
+    else Err (BadLink (link_in order octets)))
 
 -- the form that the file header says
 unfoldable pub form_at : List ℕ → Result Form CaptureFault
@@ -78,7 +84,9 @@ packet_of Ethernet frame =
 -- the octets of the first record, where they all stand there
 unfoldable pub entry_len : Form → List ℕ → Option ℕ
 entry_len form octets =
-    if nat_lt (length octets) 16 then None else (if nat_lt (length octets - 16) (number form.order 8 4 octets) then None else Some (16 + number form.order 8 4 octets))
+    if nat_lt (length octets) 16 then None
+    else (if nat_lt (length octets - 16) (number form.order 8 4 octets) then None
+    else Some (16 + number form.order 8 4 octets))
 
 abbrev pub time_of : Form → List ℕ → ℕ
 time_of form octets =
@@ -92,7 +100,10 @@ record_of form octets = record { time = time_of form octets; bytes = packet_of f
 unfoldable pub records_at : Form → ℕ → ℕ → List ℕ → Result (List Record) CaptureFault
 records_at form i zero octets = if length octets == 0 then Ok [] else Err TooManyRecords
 records_at form i (suc left) octets =
-    if length octets == 0 then Ok [] else (or_fault (entry_len form octets) (Cut i) >>= λ len. records_at form (i + 1) left (drop len octets) >>= λ rest. Ok (record_of form (take len octets) ∷ rest))
+    if length octets == 0 then Ok []
+    else (or_fault (entry_len form octets) (Cut i)
+        >>= λ len. records_at form (i + 1) left (drop len octets)
+        >>= λ rest. Ok (record_of form (take len octets) ∷ rest))
 
 -- what the octets are read as, with room for so many records
 unfoldable pub capture : ℕ → List ℕ → Result (List Record) CaptureFault

@@ -36,10 +36,15 @@ HasFault room octets NotPcap = (order : Order) (unit : TimeUnit) → HasMagic or
 HasFault room octets (BadVersion v) =
     (order : Order) × (unit : TimeUnit) × HasMagic order unit octets × (version_in order octets ≡ v) × (v ≢ version_2_4)
 HasFault room octets (BadLink v) =
-    (order : Order) × (unit : TimeUnit) × HasMagic order unit octets × (version_in order octets ≡ version_2_4) × (link_in order octets ≡ v) × ((link : Link) → v ≢ link_number link)
+    (order : Order) × (unit : TimeUnit) × HasMagic order unit octets × (version_in order octets ≡ version_2_4)
+    × (link_in order octets ≡ v)
+    × ((link : Link) → v ≢ link_number link)
 -- no first octets of what stands in the place of record i are a record
 HasFault room octets (Cut i) =
-    (form : Form) × (records : List Record) × (rest : List ℕ) × StandsAfter form octets records rest × (length records ≡ i) × (i < room) × ((first after : List ℕ) (r : Record) → rest ≡ first ++ after → IsEntry form first r → ⊥)
+    (form : Form) × (records : List Record) × (rest : List ℕ) × StandsAfter form octets records rest
+    × (length records ≡ i)
+    × (i < room)
+    × ((first after : List ℕ) (r : Record) → rest ≡ first ++ after → IsEntry form first r → ⊥)
 HasFault room octets TooManyRecords =
     (form : Form) × (records : List Record) × (rest : List ℕ) × StandsAfter form octets records rest × (length records ≡ room)
 HasFault room octets NoMemory = ⊥

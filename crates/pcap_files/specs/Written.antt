@@ -9,7 +9,8 @@ use Rattle.pcap_files.specs.declared.records.Record.{Record}
 -- octets at most of each packet, and raw IP
 unfoldable pub empty_capture : List ℕ
 empty_capture =
-    little_bytes 4 0xa1b2c3d4 ++ little_bytes 2 2 ++ little_bytes 2 4 ++ little_bytes 4 0 ++ little_bytes 4 0 ++ little_bytes 4 262144 ++ little_bytes 4 101
+    little_bytes 4 0xa1b2c3d4 ++ little_bytes 2 2 ++ little_bytes 2 4 ++ little_bytes 4 0 ++ little_bytes 4 0
+    ++ little_bytes 4 262144 ++ little_bytes 4 101
 
 -- the seconds of a time in microseconds, as far as 32 bits hold them
 abbrev pub seconds : ℕ → ℕ

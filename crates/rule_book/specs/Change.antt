@@ -22,7 +22,9 @@ same6 a b = (a.bits == b.bits) && (a.len == b.len)
 
 -- two rules are the same in each of their parts
 abbrev pub same_rule : Rule → Rule → Bool
-same_rule r s = same6 r.prefix6 s.prefix6 && (same4 r.prefix4 s.prefix4 && ((r.ea == s.ea) && ((r.offset == s.offset) && beq r.forward s.forward)))
+same_rule r s =
+    same6 r.prefix6 s.prefix6
+    && (same4 r.prefix4 s.prefix4 && ((r.ea == s.ea) && ((r.offset == s.offset) && beq r.forward s.forward)))
 
 -- the place of the rule with this IPv6 prefix
 abbrev pub place_of : Prefix6 → List Rule → Option ℕ

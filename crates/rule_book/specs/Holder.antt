@@ -25,7 +25,13 @@ has_edge prefix rule = (prefix.len == rule.prefix6.len + rule.ea) && same_first 
 
 -- what the edge's EA bits give under the rule
 abbrev pub holder_under : Rule → Prefix6 → Holder
-holder_under rule prefix = record { addr = edge_address rule prefix.bits; offset = rule.offset; psid_length = psid_len rule; psid = edge_psid rule prefix.bits; own6 = rule_address rule (edge_address rule prefix.bits) (edge_psid rule prefix.bits) }
+holder_under rule prefix = record {
+  addr = edge_address rule prefix.bits;
+  offset = rule.offset;
+  psid_length = psid_len rule;
+  psid = edge_psid rule prefix.bits;
+  own6 = rule_address rule (edge_address rule prefix.bits) (edge_psid rule prefix.bits);
+}
 
 -- what the edge holds: by the rule whose IPv6 prefix begins its own and whose EA bits end it
 abbrev pub holder_of : List Rule → Prefix6 → Option Holder
@@ -34,4 +40,5 @@ holder_of (r ∷ rules) prefix = if has_edge prefix r then Some (holder_under r 
 
 -- the edge with this prefix holds the address and port
 abbrev pub Holds : List Rule → Prefix6 → ℕ → ℕ → Type 0
-Holds rules prefix addr port = IsSomeAnd (holder_of rules prefix) (λ h. (h.addr ≡ addr) × IsTrue (in_set h.offset h.psid_length h.psid port))
+Holds rules prefix addr port =
+    IsSomeAnd (holder_of rules prefix) (λ h. (h.addr ≡ addr) × IsTrue (in_set h.offset h.psid_length h.psid port))

@@ -23,7 +23,9 @@ flag_text flag = if flag then codes "1" else codes "0"
 
 -- the line of these parts of a rule: its prefixes, its EA length, its offset and whether it forwards
 unfoldable pub parts_line : RuleParts → List ℕ
-parts_line r = codes "rule " ++ prefix_text6 r.prefix6.bits r.prefix6.len ++ codes " " ++ prefix_text4 r.prefix4.bits r.prefix4.len ++ codes " ea " ++ decimal r.ea ++ codes " offset " ++ decimal r.offset ++ codes " forward " ++ flag_text r.forward ++ newline
+parts_line r =
+    codes "rule " ++ prefix_text6 r.prefix6.bits r.prefix6.len ++ codes " " ++ prefix_text4 r.prefix4.bits r.prefix4.len
+    ++ codes " ea " ++ decimal r.ea ++ codes " offset " ++ decimal r.offset ++ codes " forward " ++ flag_text r.forward ++ newline
 
 -- the line of a rule
 abbrev pub rule_line : Rule → List ℕ
@@ -57,4 +59,5 @@ own_line own name = text6 own ++ codes " psid " ++ decimal (carried_psid own) ++
 
 -- who has an IPv4 address and port
 abbrev pub owner_text : List Rule → List Prefix6 → List (List ℕ) → ℕ → ℕ → List ℕ
-owner_text rules prefixes names addr port = option_map_or (λ own. own_line own (edge_name rules prefixes names own)) (owner_of rules addr port) (codes "none" ++ newline)
+owner_text rules prefixes names addr port =
+    option_map_or (λ own. own_line own (edge_name rules prefixes names own)) (owner_of rules addr port) (codes "none" ++ newline)

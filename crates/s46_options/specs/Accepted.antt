@@ -36,4 +36,6 @@ item_fits (item.Other code octets) = not (code == rule_code) && not (code == dmr
 -- 1 to 256 rules, exactly one default mapping rule, and at most 65,535 octets inside
 abbrev pub is_accepted : List Item → Bool
 is_accepted items =
-    list_all item_fits items && (nat_le 1 (count_by is_rule items) && (nat_le (count_by is_rule items) 256 && (count_by is_dmr items == 1 && nat_le (length (inside_octets items)) 65535)))
+    list_all item_fits items
+    && (nat_le 1 (count_by is_rule items) && (nat_le (count_by is_rule items) 256
+    && (count_by is_dmr items == 1 && nat_le (length (inside_octets items)) 65535)))

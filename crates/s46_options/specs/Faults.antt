@@ -72,7 +72,9 @@ all_faults judge at parts =
 -- offset, PSID length, and the bits past the PSID
 abbrev pub params_faults : ℕ → List ℕ → List OptionFault
 params_faults at octets =
-    if length octets == 4 then over (at + 4) 15 (octet octets 0) ++ (over (at + 5) 16 (octet octets 1) ++ padding (at + 6) 2 (word octets 2) (octet octets 1)) else BadLength (at + 2) ∷ []
+    if length octets == 4 then over (at + 4) 15 (octet octets 0)
+        ++ (over (at + 5) 16 (octet octets 1) ++ padding (at + 6) 2 (word octets 2) (octet octets 1))
+    else BadLength (at + 2) ∷ []
 
 -- where port parameters stand before it, or don't
 unfoldable pub sub_faults_beside : Bool → ℕ → DhcpOption → List OptionFault
@@ -87,7 +89,9 @@ sub_faults at earlier option = sub_faults_beside (list_any (has_code params_code
 -- flags, EA length, length and bits of the IPv4 prefix
 unfoldable pub field_faults : ℕ → List ℕ → List OptionFault
 field_faults at octets =
-    when (nat_lt 1 (octet octets 0)) (Reserved (at + 4)) ++ (over (at + 5) 48 (octet octets 1) ++ (over (at + 6) 32 (octet octets 2) ++ padding (at + 7) 4 (quad octets 3) (octet octets 2)))
+    when (nat_lt 1 (octet octets 0)) (Reserved (at + 4))
+    ++ (over (at + 5) 48 (octet octets 1)
+    ++ (over (at + 6) 32 (octet octets 2) ++ padding (at + 7) 4 (quad octets 3) (octet octets 2)))
 
 -- the place in a rule behind its IPv6 prefix, and the options from there on
 abbrev pub rule_end : List ℕ → ℕ
@@ -99,21 +103,31 @@ subs_of octets = cut (drop (rule_end octets) octets)
 -- the fields, the bits past the IPv6 prefix, and the options
 unfoldable pub body_faults : ℕ → List ℕ → List OptionFault
 body_faults at octets =
-    field_faults at octets ++ (padding (at + 12) 16 (prefix_number (part octets 8 (octets_for (octet octets 7)))) (octet octets 7) ++ all_faults sub_faults (at + (4 + rule_end octets)) (subs_of octets))
+    field_faults at octets
+    ++ (padding (at + 12) 16 (prefix_number (part octets 8 (octets_for (octet octets 7)))) (octet octets 7)
+    ++ all_faults sub_faults (at + (4 + rule_end octets)) (subs_of octets))
 
 -- a prefix length over its bound says nothing of what stands behind it
 abbrev pub rule_faults : ℕ → List ℕ → List OptionFault
 rule_faults at octets =
-    if nat_lt (length octets) 8 then BadLength (at + 2) ∷ [] else (if nat_lt 128 (octet octets 7) then field_faults at octets ++ BadPrefixLen (at + 11) ∷ [] else (if nat_lt (length octets) (rule_end octets) then BadLength (at + 2) ∷ [] else left_over (at + 2) (subs_of octets) ++ body_faults at octets))
+    if nat_lt (length octets) 8 then BadLength (at + 2) ∷ []
+    else (if nat_lt 128 (octet octets 7) then field_faults at octets ++ BadPrefixLen (at + 11) ∷ []
+    else (if nat_lt (length octets) (rule_end octets) then BadLength (at + 2) ∷ []
+    else left_over (at + 2) (subs_of octets) ++ body_faults at octets))
 
 abbrev pub dmr_faults : ℕ → List ℕ → List OptionFault
 dmr_faults at octets =
-    if length octets == 0 then BadLength (at + 2) ∷ [] else (if nat_lt 128 (octet octets 0) then BadPrefixLen (at + 4) ∷ [] else (if length octets == 1 + octets_for (octet octets 0) then padding (at + 5) 16 (prefix_number (drop 1 octets)) (octet octets 0) else BadLength (at + 2) ∷ []))
+    if length octets == 0 then BadLength (at + 2) ∷ []
+    else (if nat_lt 128 (octet octets 0) then BadPrefixLen (at + 4) ∷ []
+    else (if length octets == 1 + octets_for (octet octets 0) then padding (at + 5) 16 (prefix_number (drop 1 octets)) (octet octets 0)
+    else BadLength (at + 2) ∷ []))
 
 -- where so many rules stand before it, and a default mapping rule, or none
 unfoldable pub item_faults_beside : ℕ → Bool → ℕ → DhcpOption → List OptionFault
 item_faults_beside rules second at option =
-    if option.code == rule_code then when (nat_le 256 rules) (TooManyRules at) ++ rule_faults at option.octets else (if option.code == dmr_code then when second (SecondDmr at) ++ dmr_faults at option.octets else [])
+    if option.code == rule_code then when (nat_le 256 rules) (TooManyRules at) ++ rule_faults at option.octets
+    else (if option.code == dmr_code then when second (SecondDmr at) ++ dmr_faults at option.octets
+    else [])
 
 abbrev pub item_faults : ℕ → List DhcpOption → DhcpOption → List OptionFault
 item_faults at earlier option =
@@ -132,7 +146,11 @@ inside_faults parts = left_over 2 parts ++ (all_faults item_faults 4 parts ++ mi
 -- the text is one container and nothing else
 unfoldable pub faults : List ℕ → List OptionFault
 faults octets =
-    if nat_lt (length octets) 4 then Short (length octets) ∷ [] else (if not (word octets 0 == mapt_code) then NotMapt (word octets 0) ∷ [] else (if nat_lt (length octets) (4 + word octets 2) then Short (length octets) ∷ [] else (if nat_lt (4 + word octets 2) (length octets) then BadLength 2 ∷ [] else inside_faults (cut (drop 4 octets)))))
+    if nat_lt (length octets) 4 then Short (length octets) ∷ []
+    else (if not (word octets 0 == mapt_code) then NotMapt (word octets 0) ∷ []
+    else (if nat_lt (length octets) (4 + word octets 2) then Short (length octets) ∷ []
+    else (if nat_lt (4 + word octets 2) (length octets) then BadLength 2 ∷ []
+    else inside_faults (cut (drop 4 octets)))))
 
 -- the first fault from the left, where there is one
 abbrev pub fault_of : List ℕ → Option OptionFault

@@ -75,6 +75,7 @@ sub_in_fields (sub.Params offset psid_len psid) = true
 sub_in_fields (sub.Other code octets) = nat_lt code (2 ^ 16)
 
 abbrev pub item_in_fields : Item → Bool
-item_in_fields (item.Rule flag ea prefix4 prefix6 subs) = nat_lt prefix4.bits (2 ^ 32) && (nat_lt prefix6.bits (2 ^ 128) && list_all sub_in_fields subs)
+item_in_fields (item.Rule flag ea prefix4 prefix6 subs) =
+    nat_lt prefix4.bits (2 ^ 32) && (nat_lt prefix6.bits (2 ^ 128) && list_all sub_in_fields subs)
 item_in_fields (item.Dmr prefix) = nat_lt prefix.bits (2 ^ 128)
 item_in_fields (item.Other code octets) = nat_lt code (2 ^ 16)

@@ -36,7 +36,9 @@ behind option cut = record { options = option ∷ cut.options; left = cut.left }
 -- at most so many options
 unfoldable pub cut_most : ℕ → List ℕ → Cut
 cut_most zero octets = record { options = []; left = octets }
-cut_most (suc most) octets = if starts_whole octets then behind (first_option octets) (cut_most most (drop (4 + word octets 2) octets)) else record { options = []; left = octets }
+cut_most (suc most) octets =
+    if starts_whole octets then behind (first_option octets) (cut_most most (drop (4 + word octets 2) octets))
+    else record { options = []; left = octets }
 
 -- an option has four octets at least, so there are no more options than octets
 abbrev pub cut : List ℕ → Cut

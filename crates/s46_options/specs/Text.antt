@@ -22,7 +22,8 @@ dmr_lines (item.Dmr prefix) = dmr_prefix_line prefix
 dmr_lines (item.Other code octets) = []
 
 abbrev pub rule_lines : Item → List ℕ
-rule_lines (item.Rule flag ea prefix4 prefix6 subs) = parts_line (record { prefix6 = prefix6; prefix4 = prefix4; ea = ea; offset = offset_in subs; forward = flag })
+rule_lines (item.Rule flag ea prefix4 prefix6 subs) =
+    parts_line (record { prefix6 = prefix6; prefix4 = prefix4; ea = ea; offset = offset_in subs; forward = flag })
 rule_lines (item.Dmr prefix) = []
 rule_lines (item.Other code octets) = []
 

@@ -57,4 +57,6 @@ IsFreed IsLater Becomes octets hop = (IsLater octets × Becomes octets hop) ⊎ 
 abbrev pub AreFreed : (List ℕ → Type 0) → (List ℕ → Hop → Type 0) → List Parcel → Hop → Type 0
 AreFreed IsLater Becomes [] hop = hop ≡ nothing
 AreFreed IsLater Becomes (parcel ∷ parcels) hop =
-    (one : Hop) × (others : Hop) × IsFreed IsLater Becomes parcel.bytes one × AreFreed IsLater Becomes parcels others × (hop ≡ then one others)
+    (one : Hop) × (others : Hop) × IsFreed IsLater Becomes parcel.bytes one
+    × AreFreed IsLater Becomes parcels others
+    × (hop ≡ then one others)
