@@ -1,15 +1,10 @@
 -- The rules that an edge used, a book for each generation.
-use Rattle.std.specs.Prelude.{◌≡◌, ℕ, ◌<◌, ◌≤◌, List, [], ◌∷◌, map, IsSome, Option, Some, None}
+use Rattle.std.specs.Prelude.{ℕ, ◌<◌, ◌≤◌, List, ◌∷◌, map, IsSome}
 use Rattle.std.specs.List.{All, AllPairs}
-use Rattle.std.specs.Coded.{Coded-set, coded_list, Π_prop, →_prop, le_prop}
-use mathlib.Core.Bool.{Bool-set}
 use Rattle.octets.specs.declared.prefix.Prefix6.{Prefix6}
 use Rattle.rule_book.specs.declared.book.Book.{Book}
-use Rattle.rule_book.specs.Holder.{Holder}
-use Rattle.nat_model.specs.contracts.binding.Binding as binding_row
 use Rattle.nat_model.specs.declared.binding.Binding.{Binding}
-use Rattle.nat_model.specs.State.{Generation, NatState, generation_in, holder_at}
-use Rattle.nat_model.specs.Sound.{AreApart, AreClaimable, AreSound, IsSound}
+use Rattle.nat_model.specs.State.{Generation, generation_in}
 use Rattle.nat_model.specs.History.{EdgeStart, book_of}
 
 -- where the edge began

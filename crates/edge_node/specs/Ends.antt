@@ -1,9 +1,9 @@
 -- The ends of a translated packet, by the machine's answer.
-use Rattle.std.specs.Prelude.{ℕ, Bool, true, false, if◌then◌else◌}
+use Rattle.std.specs.Prelude.{ℕ, Bool, true, false}
 use Rattle.octets.specs.declared.address.Addr4.{Addr4}
 use Rattle.octets.specs.declared.address.Addr6.{Addr6}
 use Rattle.octets.specs.declared.proto.Proto.{Proto}
-use Rattle.octets.specs.declared.proto.Proto.TheVariants.{Tcp, Udp, Icmp}
+use Rattle.octets.specs.declared.proto.Proto.TheVariants.{Icmp}
 use Rattle.l4_headers.specs.declared.ports.Ports.{Ports}
 use Rattle.icmp_xlat.specs.declared.ends.Ends.{Ends}
 use Rattle.packets.specs.declared.asked.Flow.{Flow}

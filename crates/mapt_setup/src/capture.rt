@@ -100,17 +100,17 @@ fn are_few(captures: &[Capture]) -> bool
 }
 
 /// Whether a capture that is written can hold the record.
-fn is_writable(record: &Record) -> bool
-    ensures { result ≡ is_writable record.now }
+fn is_writable(item: &Record) -> bool
+    ensures { result ≡ is_writable item.now }
 {
-    record.time <= MOST_TIME && record.bytes.as_slice().len() <= MOST_OCTETS
+    item.time <= MOST_TIME && item.bytes.as_slice().len() <= MOST_OCTETS
 }
 
 /// Whether it can hold each of these.
 fn are_writable(records: &[Record]) -> bool
     ensures { result ≡ list_all is_writable records.now }
 {
-    records.iter().all(|record| is_writable(record))
+    records.iter().all(|item| is_writable(item))
 }
 
 /// Whether it can hold each record of each capture.

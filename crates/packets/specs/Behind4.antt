@@ -1,6 +1,6 @@
 -- For what a node drops an IPv4 packet before it looks at any rule: the causes of its header, and where it has none, what
 -- is found behind the header.
-use Rattle.std.specs.Prelude.{◌≡◌, ◌≢◌, ℕ, ◌⊎◌, not, IsTrue, List, None, Some, Option}
+use Rattle.std.specs.Prelude.{◌≡◌, ◌≢◌, ℕ, ◌⊎◌, not, IsTrue, List, None, Some}
 use Rattle.octets.specs.Cause.{IsLeast}
 use Rattle.octets.specs.Field.{word}
 use Rattle.octets.specs.Protocol.{proto4}

@@ -1,6 +1,6 @@
 -- For what a node drops an IPv6 packet before it looks at any rule: the causes of its headers, and where it has none, what
 -- is found behind them.
-use Rattle.std.specs.Prelude.{◌≡◌, ◌≢◌, ℕ, ◌⊎◌, not, Bool, IsTrue, List, None, Some, Option, IsSome}
+use Rattle.std.specs.Prelude.{◌≡◌, ◌≢◌, ℕ, ◌⊎◌, not, Bool, IsTrue, List, None, Some, IsSome}
 use Rattle.octets.specs.Cause.{IsLeast}
 use Rattle.octets.specs.Field.{word}
 use Rattle.octets.specs.Protocol.{proto6}

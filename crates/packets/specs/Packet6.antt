@@ -1,5 +1,5 @@
 -- An IPv6 packet that a node takes: none of those causes, and what it carries.
-use Rattle.std.specs.Prelude.{◌≡◌, ◌≢◌, ℕ, not, Bool, IsTrue, List, None, Some}
+use Rattle.std.specs.Prelude.{◌≡◌, ◌≢◌, ℕ, not, Bool, List, None, Some}
 use Rattle.octets.specs.Field.{word}
 use Rattle.octets.specs.Protocol.{proto6}
 use Rattle.octets.specs.declared.proto.Proto.{Proto}

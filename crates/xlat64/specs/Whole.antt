@@ -1,6 +1,6 @@
 -- A TCP or UDP packet of IPv6 translated to IPv4 as a whole: its header by the table of headers, its ports
 -- replaced, its sum changed with them (RFC 7915, sections 5.1 and 5.5).
-use Rattle.std.specs.Prelude.{◌≡◌, ◌≢◌, ℕ, ◌+◌, ◌<◌, ◌≤◌, ◌↔◌, Bool, not, List, Option, None, Some, IsSome}
+use Rattle.std.specs.Prelude.{◌≡◌, ◌≢◌, ℕ, ◌+◌, ◌<◌, ◌≤◌, ◌↔◌, not, List, Option, None, Some, IsSome}
 use Rattle.octets.specs.Field.{word, in_quad, in_sixteen}
 use Rattle.octets.specs.Protocol.{proto6}
 use Rattle.octets.specs.declared.address.Addr4.{Addr4}
