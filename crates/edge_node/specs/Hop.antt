@@ -86,7 +86,7 @@ abbrev pub ComesIn : Node → List ℕ → Addr4 → ℕ → Addr4 → Addr4 →
 ComesIn node octets to port from peer p hop =
     (passage : Passage)
     × IsPassage64 (record { mtus = node.params.mtus; ends = ends_in (flow_of6 p.content) to port from peer; id = node.id })
-        p (payload_of6 p.head octets) passage
+    p (payload_of6 p.head octets) passage
     × IsCarried (Drops node Access octets) ToLan passage hop
 
 -- what becomes of a packet from the LAN, from the access network, and of one that the edge turned

@@ -44,4 +44,4 @@ IsFirstOption option octets =
     IsWholeOption option
     × (length option ≤ length octets)
     × (routed_in 0 octets
-        ≡ beside (is_unspent (octet option 0) (octet option 1) (octet option 2)) (routed_in 0 (drop (length option) octets)))
+    ≡ beside (is_unspent (octet option 0) (octet option 1) (octet option 2)) (routed_in 0 (drop (length option) octets)))

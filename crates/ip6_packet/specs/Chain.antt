@@ -60,8 +60,8 @@ IsFirstHeader header octets =
     × (length header ≤ length octets)
     × ((place number : ℕ) → is_sized number ≡ true
     → chain_in place number 0 octets
-        ≡ behind (route_at number (place + 3) (octet header 3))
-            (chain_in (place + length header) (octet header 0) 0 (drop (length header) octets)))
+    ≡ behind (route_at number (place + 3) (octet header 3))
+    (chain_in (place + length header) (octet header 0) 0 (drop (length header) octets)))
 
 -- No header with a length octet stands whole there.
 abbrev pub HasNoHeader : List ℕ → Type 0

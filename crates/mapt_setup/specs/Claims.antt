@@ -48,7 +48,7 @@ abbrev pub collides : ForwardLine → ForwardLine → Bool
 collides forward other =
     (other.edge == forward.edge)
     && (is_of_port forward.binding.proto forward.binding.port other.binding
-        || is_of_host forward.binding.proto (host_end forward.binding) other.binding)
+    || is_of_host forward.binding.proto (host_end forward.binding) other.binding)
 
 -- an earlier forward does with it
 abbrev pub is_taken : List ForwardLine → ForwardLine → Bool
@@ -58,7 +58,7 @@ is_taken earlier forward = list_any (collides forward) earlier
 abbrev pub forward_fault : List Rule → List EdgeLine → List ForwardLine → Option SetupFault
 forward_fault rules edges forwards =
     option_or (option_map (Refused ForwardPort) (position (is_unclaimable rules edges) forwards))
-        (option_map (Refused ForwardTwice) (first_after is_taken forwards))
+    (option_map (Refused ForwardTwice) (first_after is_taken forwards))
 
 -- the forwards of these texts at their edges
 unfoldable pub forwards_of : List Rule → List EdgeLine → List ForwardText → Result (List ForwardLine) SetupFault → Type 0

@@ -27,8 +27,8 @@ is_over dmr edge = overlaps6 edge.prefix dmr.prefix
 abbrev pub edge_fault : List EdgeLine → Dmr → Option SetupFault
 edge_fault edges dmr =
     option_or (option_map (Refused EdgeName) (first_after has_name_of edges))
-        (option_or (option_map (Refused EdgeOverlap) (first_after is_crowded edges))
-            (option_map (Refused EdgeOverDmr) (position (is_over dmr) edges)))
+    (option_or (option_map (Refused EdgeOverlap) (first_after is_crowded edges))
+    (option_map (Refused EdgeOverDmr) (position (is_over dmr) edges)))
 
 -- no edge has the name of an earlier one; none has too long a prefix or one that overlaps an earlier
 -- edge's; and no prefix overlaps that of the default mapping rule

@@ -51,7 +51,7 @@ item_time changes (Move number live) = change_time changes number
 abbrev pub order : List MoveLine → ScriptItem → ScriptItem → Ordering
 order changes x y =
     ordering_then (nat_cmp (item_time changes x) (item_time changes y))
-        (ordering_then (nat_cmp (item_kind x) (item_kind y)) (nat_cmp (item_edge x) (item_edge y)))
+    (ordering_then (nat_cmp (item_kind x) (item_kind y)) (nat_cmp (item_edge x) (item_edge y)))
 
 -- the changes in their order, numbered from some number on
 abbrev pub move_items : ℕ → List MoveLine → List ScriptItem

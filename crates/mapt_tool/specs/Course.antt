@@ -40,7 +40,7 @@ rules_said setup generation = said_of (λ standing. book_text standing (dmr_of s
 abbrev pub owner_said : Setup → ℕ → ℕ → ℕ → Result Planned Status
 owner_said setup generation addr port =
     said_of (λ standing. owner_text standing (map (λ e. e.prefix) setup.edges) (map (λ e. e.name) setup.edges) addr port)
-        (rules_at setup generation)
+    (rules_at setup generation)
 
 -- the configuration of this name is read and set up, and then replayed with what is left of the command's octets
 abbrev pub Replays : List ℕ → List ℕ → List Read → Next Planned Status → Type 0

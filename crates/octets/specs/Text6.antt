@@ -64,7 +64,7 @@ unfoldable pub groups_from : ℕ → ℕ → ℕ → List ℕ → Option (ℕ ×
 groups_from zero count n text = None
 groups_from (suc room) count n text =
     or_else (cut_at colon text) (numeral_at 16 text >>= λ g. Some (count + 1, n * 65536 + g))
-        (λ parts. numeral_at 16 parts.0 >>= λ g. groups_from room (count + 1) (n * 65536 + g) parts.1)
+    (λ parts. numeral_at 16 parts.0 >>= λ g. groups_from room (count + 1) (n * 65536 + g) parts.1)
 
 -- the groups beside a gap, of which there may be none
 unfoldable pub part_at : List ℕ → Option (ℕ × ℕ)

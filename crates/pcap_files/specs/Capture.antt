@@ -102,8 +102,8 @@ records_at form i zero octets = if length octets == 0 then Ok [] else Err TooMan
 records_at form i (suc left) octets =
     if length octets == 0 then Ok []
     else (or_fault (entry_len form octets) (Cut i)
-        >>= λ len. records_at form (i + 1) left (drop len octets)
-        >>= λ rest. Ok (record_of form (take len octets) ∷ rest))
+    >>= λ len. records_at form (i + 1) left (drop len octets)
+    >>= λ rest. Ok (record_of form (take len octets) ∷ rest))
 
 -- what the octets are read as, with room for so many records
 unfoldable pub capture : ℕ → List ℕ → Result (List Record) CaptureFault

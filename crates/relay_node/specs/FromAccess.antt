@@ -54,7 +54,7 @@ IsSent6 relay p octets ports (Some src) (Some dst) hop = IsPassed6 relay p octet
 abbrev pub Becomes6 : Relay → Packet6 → List ℕ → Ports → Hop → Type 0
 Becomes6 relay p octets ports hop =
     IsSent6 relay p octets ports
-        (source_of relay p.head.src (source_port (flow_of6 p.content).fault ports)) (extracted relay.dmr p.head.dst) hop
+    (source_of relay p.head.src (source_port (flow_of6 p.content).fault ports)) (extracted relay.dmr p.head.dst) hop
 
 -- fragments that are freed: the later ones among them are taken as packets of the flow
 abbrev pub IsLater6 : List ℕ → Type 0

@@ -27,8 +27,8 @@ too_many rules = if nat_lt most_rules (length rules) then Some TooManyRules else
 abbrev pub overlap_of : List Rule → Dmr → Option BookFault
 overlap_of rules dmr =
     option_or (option_map (λ p. Overlap4 p.0 p.1) (first_pair clash4 rules))
-        (option_or (option_map (λ p. Overlap6 p.0 p.1) (first_pair clash6 rules))
-            (option_map OverlapDmr (position (clash_dmr dmr) rules)))
+    (option_or (option_map (λ p. Overlap6 p.0 p.1) (first_pair clash6 rules))
+    (option_map OverlapDmr (position (clash_dmr dmr) rules)))
 
 -- why these rules are no book, if they aren't
 abbrev pub refusal_of : List Rule → Dmr → Option BookFault

@@ -73,7 +73,7 @@ all_faults judge at parts =
 abbrev pub params_faults : ℕ → List ℕ → List OptionFault
 params_faults at octets =
     if length octets == 4 then over (at + 4) 15 (octet octets 0)
-        ++ (over (at + 5) 16 (octet octets 1) ++ padding (at + 6) 2 (word octets 2) (octet octets 1))
+    ++ (over (at + 5) 16 (octet octets 1) ++ padding (at + 6) 2 (word octets 2) (octet octets 1))
     else BadLength (at + 2) ∷ []
 
 -- where port parameters stand before it, or don't
