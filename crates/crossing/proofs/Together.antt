@@ -11,7 +11,7 @@ use Rattle.ip6_packet.specs.declared.head.Head6.{Head6}
 use Rattle.packet_faults.specs.Cut.{Cutting, AreCut, IsCuttable, cut_for, piece, step_of}
 use Rattle.packets.specs.declared.packet6.Packet6.{Packet6}
 use Rattle.crossing.specs.Named.{Sent, Named, piece_at}
-use Rattle.crossing.specs.Pieces.{joined, AreNamedFrom, IsCutInto, AreBack, ComeTogether}
+use Rattle.crossing.specs.Pieces.{payloads_of, AreNamedFrom, IsCutInto, AreBack, ComeTogether}
 use Rattle.crossing.specs.Transfer.{Transfer, IsTakenAs, IsBack, crossing_of}
 use Rattle.crossing.proofs.Cut.{cut_of, this_cut}
 use Rattle.crossing.proofs.Piece.{length-part}
@@ -51,7 +51,7 @@ behind_all xs at past = same_number_lists _ _ (grind (arith, places)) (λ k smal
 record ComesFrom (t : Transfer) (whole : List ℕ) (k : ℕ) (fours : List (List ℕ)) : Type 0 where
   sent : List Sent
   named : (at : ℕ) → (at ≡ k * step_of t.mtus.mtu6) ⊎ (length whole ≤ k * step_of t.mtus.mtu6) → AreNamedFrom (crossing_of t) whole at sent
-  rest : joined sent ≡ drop (k * step_of t.mtus.mtu6) whole
+  rest : payloads_of sent ≡ drop (k * step_of t.mtus.mtu6) whole
   octets_are : fours ≡ map (λ r. r.octets) sent
 
 plus_none : (k step : ℕ) → k * step ≡ (k + 0) * step
@@ -96,7 +96,7 @@ comes_from t six over whole h payload k at_relay (p ∷ pieces) (four ∷ fours)
         record {
           sent = one.sent ∷ others.sent;
           named = λ place where_it_is. named_at place one.sent size one.named others.named after where_it_is;
-          rest = ap (λ (xs : List ℕ). xs ++ joined others.sent) one.part_is
+          rest = ap (λ (xs : List ℕ). xs ++ payloads_of others.sent) one.part_is
               ∙ ap (λ (xs : List ℕ). part whole at step ++ xs) (others.rest ∙ ap (λ (n : ℕ). drop n whole) after)
               ∙ split_at whole at step;
           octets_are = ap (λ (xs : List ℕ). xs ∷ fours) one.octets_are ∙ ap (λ (xs : List (List ℕ)). one.sent.octets ∷ xs) others.octets_are;

@@ -49,14 +49,14 @@ pub data Portion : Type 0 where
   piece_at : ℕ → Portion
 
 -- the record number for a packet that was whole and uncut, and else the identification that it came with
-abbrev pub identification : Head4 → Portion → ℕ → ℕ
-identification head uncut number = if is_fragment head then head.id else number % 2 ^ 16
-identification head (piece_at at) number = head.id
+abbrev pub identification_after : Head4 → Portion → ℕ → ℕ
+identification_after head uncut number = if is_fragment head then head.id else number % 2 ^ 16
+identification_after head (piece_at at) number = head.id
 
 -- "don't fragment" for a packet that was whole and uncut, where it has more than 1260 octets
-abbrev pub dont_fragment : Head4 → Portion → ℕ → Bool
-dont_fragment head uncut total = not (is_fragment head) && not (nat_le total 1260)
-dont_fragment head (piece_at at) total = false
+abbrev pub dont_fragment_after : Head4 → Portion → ℕ → Bool
+dont_fragment_after head uncut total = not (is_fragment head) && not (nat_le total 1260)
+dont_fragment_after head (piece_at at) total = false
 
 -- where the fragment stands in the whole payload of its packet, in units of 8 octets; more fragments follow it: what
 -- the packet said of itself, and of a piece that other octets of the packet follow
@@ -170,8 +170,8 @@ pub record Named (x : Crossing) (portion : Portion) (whole : List ℕ) (r : Sent
   -- TTL: 2 less
   pub ttl : r.head.ttl + 2 ≡ x.replaced.head.ttl
   -- identification and "don't fragment"
-  pub id : r.head.id ≡ identification x.replaced.head portion x.number
-  pub df : r.head.df ≡ dont_fragment x.replaced.head portion r.head.total
+  pub id : r.head.id ≡ identification_after x.replaced.head portion x.number
+  pub df : r.head.df ≡ dont_fragment_after x.replaced.head portion r.head.total
   -- sums, ICMP messages, and what they embed
   pub payload : IsPayload x x.taken.content x.replaced.content whole
   -- of a cut packet one piece

@@ -47,8 +47,8 @@ content_from addr port (Later proto) = Later proto
 content_from addr port (Query m row) = Query (with_identifier port m) row
 content_from addr port (Error m row inner) = Error m row (inner_to addr port inner)
 
-abbrev pub sent_from : Addr4 → ℕ → Packet4 → Packet4
-sent_from addr port p = record { head = record p.head { src = addr }; content = content_from addr port p.content }
+abbrev pub packet_from : Addr4 → ℕ → Packet4 → Packet4
+packet_from addr port p = record { head = record p.head { src = addr }; content = content_from addr port p.content }
 
 -- The packet is received at this address and port. An error is received about a packet that came from them.
 abbrev pub content_to : Addr4 → ℕ → Content4 → Content4
@@ -57,13 +57,13 @@ content_to addr port (Later proto) = Later proto
 content_to addr port (Query m row) = Query (with_identifier port m) row
 content_to addr port (Error m row inner) = Error m row (inner_from addr port inner)
 
-abbrev pub received_at : Addr4 → ℕ → Packet4 → Packet4
-received_at addr port p = record { head = record p.head { dst = addr }; content = content_to addr port p.content }
+abbrev pub packet_to : Addr4 → ℕ → Packet4 → Packet4
+packet_to addr port p = record { head = record p.head { dst = addr }; content = content_to addr port p.content }
 
 -- the packet with what the answer replaces; with any other answer it crosses nothing
 abbrev pub nat44 : Packet4 → Answer → Option Packet4
-nat44 p (Out from port src6 dst6 freed) = Some (sent_from from port p)
-nat44 p (In to port from peer freed) = Some (received_at to port p)
+nat44 p (Out from port src6 dst6 freed) = Some (packet_from from port p)
+nat44 p (In to port from peer freed) = Some (packet_to to port p)
 nat44 p (Turn from port freed) = None
 nat44 p (Kept port until) = None
 nat44 p Held = None

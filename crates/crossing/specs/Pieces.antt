@@ -7,9 +7,9 @@ use Rattle.crossing.specs.Named.{Crossing, Sent, Named, piece_at}
 use Rattle.crossing.specs.Transfer.{Transfer, IsThere, IsBack, FitsPorts}
 
 -- the payloads of these packets, one after the other
-abbrev pub joined : List Sent → List ℕ
-joined [] = []
-joined (r ∷ rs) = r.payload ++ joined rs
+abbrev pub payloads_of : List Sent → List ℕ
+payloads_of [] = []
+payloads_of (r ∷ rs) = r.payload ++ payloads_of rs
 
 -- each of them is the piece that begins where those before it end
 abbrev pub AreNamedFrom : Crossing → List ℕ → ℕ → List Sent → Type 0
@@ -19,7 +19,7 @@ AreNamedFrom x whole at (r ∷ rs) = Named x (piece_at at) whole r × AreNamedFr
 -- all pieces of a cut packet, in order, where none was dropped or held
 pub record AreNamed (x : Crossing) (whole : List ℕ) (pieces : List Sent) : Type 0 where
   pub each : AreNamedFrom x whole 0 pieces
-  pub no_gap : joined pieces ≡ whole
+  pub no_gap : payloads_of pieces ≡ whole
 
 -- the first node cuts the packet into these pieces
 pub record IsCutInto (t : Transfer) (pieces : List Parcel) : Type 0 where

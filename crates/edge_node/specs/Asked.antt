@@ -43,42 +43,36 @@ abbrev pub near_port : Flow → ℕ
 near_port flow = if flow.fault then flow.ports.dst else flow.ports.src
 
 -- the flow's port at the other side
-abbrev pub far_port : Flow → ℕ
-far_port flow = if flow.fault then flow.ports.src else flow.ports.dst
+abbrev pub other_port : Flow → ℕ
+other_port flow = if flow.fault then flow.ports.src else flow.ports.dst
 
 -- which part of a packet it is; a later fragment is asked about with its octets as they were taken
-abbrev pub part_of : Extent → FragKey → List ℕ → Part
-part_of Whole key octets = WholePart
-part_of First key octets = FirstPart key
-part_of Later key octets = LaterPart key octets
+abbrev pub asked_part : Extent → FragKey → List ℕ → Part
+asked_part Whole key octets = WholePart
+asked_part First key octets = FirstPart key
+asked_part Later key octets = LaterPart key octets
 
--- the numbers of the sides in a fragment's key
-abbrev pub number_of : Way → ℕ
-number_of Lan = 0
-number_of Access = 1
-number_of Turned = 2
-
--- a packet from the LAN
+-- a packet from the LAN, whose side in a fragment's key is 0
 abbrev pub outward : Packet4 → Flow → List ℕ → Ask
 outward p flow octets = Outward flow.fault flow.proto
     (record { addr = near_addr4 p p.content; port = near_port flow })
-    (record { addr = p.head.dst; port = far_port flow })
+    (record { addr = p.head.dst; port = other_port flow })
     flow.flags
-    (part_of (extent_of4 p.head) (key_of4 0 p.head) octets)
+    (asked_part (extent_of4 p.head) (key_of4 0 p.head) octets)
 
--- a packet from the access network
+-- a packet from the access network, whose side is 1
 abbrev pub inward : Packet6 → Flow → List ℕ → Ask
-inward p flow octets = Inward flow.fault flow.proto (far_port flow)
+inward p flow octets = Inward flow.fault flow.proto (other_port flow)
     (Six p.head.dst p.head.src (near_addr6 p p.content) (near_port flow))
     flow.flags
-    (part_of (extent_of6 p.head) (key_of6 1 p.head) octets)
+    (asked_part (extent_of6 p.head) (key_of6 1 p.head) octets)
 
--- a packet that the edge turned
+-- a packet that the edge turned, whose side is 2
 abbrev pub inward_turned : Packet4 → Flow → List ℕ → Ask
-inward_turned p flow octets = Inward flow.fault flow.proto (far_port flow)
+inward_turned p flow octets = Inward flow.fault flow.proto (other_port flow)
     (FromItself p.head.dst p.head.src (near_addr4 p p.content) (near_port flow))
     flow.flags
-    (part_of (extent_of4 p.head) (key_of4 2 p.head) octets)
+    (asked_part (extent_of4 p.head) (key_of4 2 p.head) octets)
 
 -- what is asked about a packet that is taken on this way
 abbrev pub IsAsk : Way → List ℕ → Ask → Type 0

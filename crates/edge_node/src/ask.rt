@@ -5,7 +5,7 @@ ghost use Rattle.octets.specs.declared.cause.Fault.TheVariants.{Drop as Dropped}
 ghost use Rattle.nat_model.specs.declared.ask.Ask.{Ask as AnyAsk};
 ghost use Rattle.packets.specs.Asked.{flow_of4, flow_of6, extent_of4, extent_of6, key_of4, key_of6};
 ghost use Rattle.edge_node.specs.declared.way.Way.TheVariants.{Lan as FromLan, Access as FromAccess, Turned as FromItself};
-ghost use Rattle.edge_node.specs.Asked.{near_addr4, near_addr6, near_port, far_port, part_of, outward, inward, inward_turned, IsAsk, IsDroppedAt};
+ghost use Rattle.edge_node.specs.Asked.{near_addr4, near_addr6, near_port, other_port, asked_part, outward, inward, inward_turned, IsAsk, IsDroppedAt};
 
 use crate::way::Way;
 use frag_table::FragKey;
@@ -53,8 +53,8 @@ fn near_port(flow: &Flow) -> u16
 }
 
 /// The port of the flow's other end.
-fn far_port(flow: &Flow) -> u16
-    ensures { result ≡ far_port flow.now }
+fn other_port(flow: &Flow) -> u16
+    ensures { result ≡ other_port flow.now }
 {
     if flow.fault {
         flow.ports.src
@@ -64,8 +64,8 @@ fn far_port(flow: &Flow) -> u16
 }
 
 /// Which part of a packet it is.
-fn part_of(alloc: Global, extent: Extent, key: FragKey, octets: &[u8]) -> Result<Part, NoMemory>
-    ensures { IfOk result (λ part. part ≡ part_of extent key octets.now) }
+fn asked_part(alloc: Global, extent: Extent, key: FragKey, octets: &[u8]) -> Result<Part, NoMemory>
+    ensures { IfOk result (λ part. part ≡ asked_part extent key octets.now) }
 {
     Ok(match extent {
         Extent::Whole => Part::Whole,
@@ -89,7 +89,7 @@ fn outward(alloc: Global, packet: &Packet4, octets: &[u8]) -> Result<Ask, NoMemo
     };
     let far = End4 {
         addr: packet.head.dst,
-        port: far_port(&flow),
+        port: other_port(&flow),
     };
     Ok(Ask::Outward {
         fault: flow.fault,
@@ -97,7 +97,7 @@ fn outward(alloc: Global, packet: &Packet4, octets: &[u8]) -> Result<Ask, NoMemo
         near,
         far,
         flags: flow.flags,
-        part: part_of(alloc, packet.extent(), packet.key(FROM_LAN), octets)?,
+        part: asked_part(alloc, packet.extent(), packet.key(FROM_LAN), octets)?,
     })
 }
 
@@ -115,10 +115,10 @@ fn inward(alloc: Global, packet: &Packet6, octets: &[u8]) -> Result<Ask, NoMemor
     Ok(Ask::Inward {
         fault: flow.fault,
         proto: flow.proto,
-        port: far_port(&flow),
+        port: other_port(&flow),
         far,
         flags: flow.flags,
-        part: part_of(alloc, packet.extent(), packet.key(FROM_ACCESS), octets)?,
+        part: asked_part(alloc, packet.extent(), packet.key(FROM_ACCESS), octets)?,
     })
 }
 
@@ -136,10 +136,10 @@ fn inward_turned(alloc: Global, packet: &Packet4, octets: &[u8]) -> Result<Ask, 
     Ok(Ask::Inward {
         fault: flow.fault,
         proto: flow.proto,
-        port: far_port(&flow),
+        port: other_port(&flow),
         far,
         flags: flow.flags,
-        part: part_of(alloc, packet.extent(), packet.key(FROM_ITSELF), octets)?,
+        part: asked_part(alloc, packet.extent(), packet.key(FROM_ITSELF), octets)?,
     })
 }
 

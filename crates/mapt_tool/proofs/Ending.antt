@@ -10,7 +10,7 @@ use Rattle.mapt_tool.specs.Carried.{Outside, Unfinished, Carried}
 use Rattle.mapt_tool.specs.Course.{Course}
 use Rattle.mapt_tool.specs.Ended.{ComesTo, FoundTooLong, Ended, HandedOut, AreToldOf, IsToldLonger, handing}
 use Rattle.mapt_tool.specs.Limits.{file_limit}
-use Rattle.mapt_tool.specs.Outcome.{Comes, ComesTooFar, Outcome, told_by}
+use Rattle.mapt_tool.specs.Outcome.{Comes, ComesTooFar, Outcome, telling}
 use Rattle.mapt_tool.specs.Planned.{Planned}
 use Rattle.mapt_tool.specs.Reading.{Read, Next, gives, refuses, wants, lacks, AreOf, octets_of}
 use Rattle.mapt_tool.specs.Request.{Request, Asks, IsUsage}
@@ -125,7 +125,7 @@ comes_of : (request : Request) (old new : FolderSeen) (files : Files) (next : Ne
 comes_of request old new files next is comes = record { reads = comes.reads; held = told_of old files comes.reads is comes.handed.told; reached = comes.reached }
 
 abbrev IsTold : Request → Files → Status → Type 0
-IsTold request files status = (status ≡ NoMemory) ⊎ ((answer : Result Planned Status) × Outcome request files answer × (status ≡ told_by answer))
+IsTold request files status = (status ≡ NoMemory) ⊎ ((answer : Result Planned Status) × Outcome request files answer × (status ≡ telling answer))
 
 abbrev seen_count : FolderSeen → ℕ
 seen_count folder = folder.faults
@@ -166,7 +166,7 @@ tells_one request old new files (NotBuilt file) is ends sound = inr (Err (NotBui
 
 tells_exactly : (request : Request) (files : Files) (status : Status) (answer : Result Planned Status) → IsTold request files status → Outcome request files answer → Tells status answer
 tells_exactly request files status answer (inl none) outcome = inr none
-tells_exactly request files status answer (inr told) outcome = inl (told.2 ∙ ap told_by (one_outcome request files told.0 answer told.1 outcome))
+tells_exactly request files status answer (inr told) outcome = inl (told.2 ∙ ap telling (one_outcome request files told.0 answer told.1 outcome))
 
 -- ---- all of the promise
 

@@ -10,7 +10,7 @@ use Rattle.outside.specs.declared.file_id.FileId.{FileId}
 use Rattle.mapt_tool.specs.declared.status.Status.{Status}
 use Rattle.mapt_tool.specs.declared.status.Status.TheVariants.{Done, Usage, ReadFault, WriteFault, TooLong, NoMemory}
 use Rattle.mapt_tool.specs.Ended.{AreToldOf, IsToldLonger, handing, HandedOut, ComesTo, Within, Lacked, Ended, Given}
-use Rattle.mapt_tool.specs.Pieces.{HoldsFrom, IsWhole, PieceFails}
+use Rattle.mapt_tool.specs.Pieces.{HoldsFrom, IsContent, PieceFails}
 use Rattle.mapt_tool.specs.Reading.{Read, Next, gives, refuses, wants, lacks, octets_of, Answers, Reads, Goes, Then}
 
 -- counts add up
@@ -33,7 +33,7 @@ told_append : (files : Option Files) (front back : List Read) → AreToldOf file
 told_append None front back a b = tt
 told_append (Some files) front back a b = All-append (λ (r : Read). r.octets ≡ content_of files r.name) front back a b
 
-told_one : (files : Option Files) (file : FileId) (name octets : List ℕ) → IsWhole files name octets → AreToldOf files (record { file = file; name = name; octets = octets } ∷ [])
+told_one : (files : Option Files) (file : FileId) (name octets : List ℕ) → IsContent files name octets → AreToldOf files (record { file = file; name = name; octets = octets } ∷ [])
 told_one None file name octets whole = tt
 told_one (Some files) file name octets whole =
     All-cons (λ (r : Read). r.octets ≡ content_of files r.name) (record { file = file; name = name; octets = octets }) [] whole (All-nil (λ (r : Read). r.octets ≡ content_of files r.name))
@@ -188,7 +188,7 @@ one_read : (octets : List ℕ) (file : FileId) (name : List ℕ) → length octe
 one_read octets file name = omega arith
 
 -- a file that was read whole
-pub ends_read : (old new : FolderSeen) (file : FileId) (name octets : List ℕ) (limit : ℕ) → new ≡ handing old (length octets) → IsWhole old.files name octets → length octets ≤ limit → Ended (Reads file name limit) old new (Ok octets)
+pub ends_read : (old new : FolderSeen) (file : FileId) (name octets : List ℕ) (limit : ℕ) → new ≡ handing old (length octets) → IsContent old.files name octets → length octets ≤ limit → Ended (Reads file name limit) old new (Ok octets)
 ends_read old new file name octets limit seen whole short = record {
   reads = record { file = file; name = name; octets = octets } ∷ [];
   handed = record {

@@ -31,6 +31,6 @@ abbrev pub Outcome : Request → Files → Result Planned Status → Type 0
 Outcome request files answer = OutcomeOf (Course request) files answer
 
 -- the status that tells an outcome
-abbrev pub told_by : Result Planned Status → Status
-told_by (Ok plan) = Done
-told_by (Err refusal) = refusal
+abbrev pub telling : Result Planned Status → Status
+telling (Ok plan) = Done
+telling (Err refusal) = refusal

@@ -14,9 +14,9 @@ HoldsFrom None name octets = ⊤
 HoldsFrom (Some files) name octets = octets ≡ take (length octets) (content_of files name)
 
 -- the octets are the file's, where the folder tells
-abbrev pub IsWhole : Option Files → List ℕ → List ℕ → Type 0
-IsWhole None name octets = ⊤
-IsWhole (Some files) name octets = octets ≡ content_of files name
+abbrev pub IsContent : Option Files → List ℕ → List ℕ → Type 0
+IsContent None name octets = ⊤
+IsContent (Some files) name octets = octets ≡ content_of files name
 
 -- why a piece of this file wasn't read, of at most so many octets
 abbrev pub PieceFails : FolderSeen → FolderSeen → FileId → ℕ → Status → Type 0

@@ -8,8 +8,8 @@ pub record Planned : Type 0 where
   pub writes : List FileWrite
   pub text : List ℕ
 
-abbrev pub nothing : Planned
-nothing = record { writes = []; text = [] }
+abbrev pub nothing_planned : Planned
+nothing_planned = record { writes = []; text = [] }
 
 -- text for the sink, and no file
 abbrev pub says : List ℕ → Planned

@@ -5,7 +5,7 @@ use Rattle.pcap_files.specs.declared.records.Record.{Record}
 use Rattle.pcap_files.specs.declared.fault.CaptureFault.{CaptureFault}
 use Rattle.pcap_files.specs.Capture.{capture}
 use Rattle.one_edge.specs.declared.captures.Captures.{Captures}
-use Rattle.one_edge.specs.Edge.{Edge, IsEdge, LacksEdge}
+use Rattle.one_edge.specs.Edge.{Edge, IsEdgeUnder, LacksEdge}
 use Rattle.one_edge.specs.Served.{AreReplayed}
 use Rattle.one_edge.specs.Crossed.{AreCaptured}
 use Rattle.mapt_setup.specs.declared.edge.EdgeLine.{EdgeLine}
@@ -37,7 +37,7 @@ only_edge setup = only_one (asks_for_more setup) setup.edges
 -- it is replayed where it holds an address and a port set with a port that it may claim
 abbrev pub IsEdgeOf : Setup → Option EdgeLine → Replayed → Type 0
 IsEdgeOf setup None x = ⊥
-IsEdgeOf setup (Some line) x = IsEdge setup.book line.prefix setup.mtus x.edge × (x.lan ≡ line.capture)
+IsEdgeOf setup (Some line) x = IsEdgeUnder setup.book line.prefix setup.mtus x.edge × (x.lan ≡ line.capture)
 
 abbrev pub HasNoEdge : Setup → Option EdgeLine → Type 0
 HasNoEdge setup None = Unit {0}

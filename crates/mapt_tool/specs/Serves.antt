@@ -9,7 +9,7 @@ use Rattle.mapt_tool.specs.Carried.{Outside, Finished, Unfinished, Began}
 use Rattle.mapt_tool.specs.Course.{Course}
 use Rattle.mapt_tool.specs.Ended.{ComesTo, ReadFailed, FoundTooLong, Lacked}
 use Rattle.mapt_tool.specs.Limits.{file_limit}
-use Rattle.mapt_tool.specs.Outcome.{Outcome, told_by}
+use Rattle.mapt_tool.specs.Outcome.{Outcome, telling}
 use Rattle.mapt_tool.specs.Planned.{Planned}
 use Rattle.mapt_tool.specs.Reading.{gives, refuses}
 use Rattle.mapt_tool.specs.Request.{Request, Asks, IsUsage}
@@ -27,7 +27,7 @@ pub record IsDone (request : Request) (old new : Outside) : Type 0 where
   pub finished : Finished mid new plan
 
 -- a read of this file failed, which the command reads after others that it read whole and that refuse nothing
-pub record IsUnread (request : Request) (old new : Outside) (file : FileId) : Type 0 where
+pub record IsUnreadable (request : Request) (old new : Outside) (file : FileId) : Type 0 where
   pub failed : ReadFailed (Course request) old.folder new.folder file
   pub silent : new.sink ≡ old.sink
 
@@ -64,7 +64,7 @@ IsLacking request old new = (Lacked (Course request) old.folder new.folder × (n
 abbrev pub Ends : Request → Outside → Outside → Status → Type 0
 Ends request old new Done = IsDone request old new
 Ends request old new (Usage number) = ⊥
-Ends request old new (ReadFault file) = IsUnread request old new file
+Ends request old new (ReadFault file) = IsUnreadable request old new file
 Ends request old new (WriteFault file) = IsUnwritten request old new file
 Ends request old new (TooLong file) = IsTooLong request old new file
 Ends request old new NoMemory = IsLacking request old new
@@ -77,7 +77,7 @@ pub record NothingFailed (old new : Outside) : Type 0 where
 
 -- the status tells the outcome on these files, or memory ran out
 abbrev pub Tells : Status → Result Planned Status → Type 0
-Tells status answer = (status ≡ told_by answer) ⊎ (status ≡ NoMemory)
+Tells status answer = (status ≡ telling answer) ⊎ (status ≡ NoMemory)
 
 -- What the top call promises.
 pub record Serves (words : List (List ℕ)) (old new : Outside) (status : Status) : Type 0 where
@@ -87,7 +87,7 @@ pub record Serves (words : List (List ℕ)) (old new : Outside) (status : Status
   pub form : (request : Request) → Asks words request → Ends request old new status
   -- Where the folder tells its files and nothing failed, the status tells an outcome on them, or memory ran out.
   pub complete : (request : Request) (files : Files) → Asks words request → old.folder.files ≡ Some files → NothingFailed old new
-      → (status ≡ NoMemory) ⊎ ((answer : Result Planned Status) × Outcome request files answer × (status ≡ told_by answer))
+      → (status ≡ NoMemory) ⊎ ((answer : Result Planned Status) × Outcome request files answer × (status ≡ telling answer))
   -- And an outcome is told by its status: a refusal by that refusal and no other, unless memory ran out.
   pub exact : (request : Request) (files : Files) (answer : Result Planned Status) → Asks words request → old.folder.files ≡ Some files
       → Outcome request files answer → NothingFailed old new → Tells status answer

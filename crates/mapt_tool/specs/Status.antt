@@ -5,16 +5,16 @@ use Rattle.mapt_setup.specs.declared.fault.SetupFault.TheVariants as setup
 use Rattle.mapt_tool.specs.declared.status.Status.{Status}
 use Rattle.mapt_tool.specs.declared.status.Status.TheVariants.{Done, Usage, ReadFault, WriteFault, SetupRefused, CaptureRefused, TooLong, NoMemory, NotBuilt}
 
-abbrev pub number_of : Status → ℕ
-number_of Done = 0
-number_of (Usage i) = 2
-number_of (ReadFault file) = 3
-number_of (WriteFault file) = 4
-number_of (SetupRefused cause place) = 5
-number_of (CaptureRefused file fault) = 6
-number_of (TooLong file) = 7
-number_of NoMemory = 9
-number_of (NotBuilt file) = 11
+abbrev pub status_number : Status → ℕ
+status_number Done = 0
+status_number (Usage i) = 2
+status_number (ReadFault file) = 3
+status_number (WriteFault file) = 4
+status_number (SetupRefused cause place) = 5
+status_number (CaptureRefused file fault) = 6
+status_number (TooLong file) = 7
+status_number NoMemory = 9
+status_number (NotBuilt file) = 11
 
 -- how a command ends for what is wrong with its configuration
 abbrev pub status_of : SetupFault → Status

@@ -29,11 +29,11 @@ impl Model for Plan {
 }
 
 impl Plan {
-    ghost use Rattle.mapt_tool.specs.Planned.{nothing};
+    ghost use Rattle.mapt_tool.specs.Planned.{nothing_planned};
 
     /// Nothing.
     pub fn new(alloc: Global) -> Plan
-        ensures { result ≡ nothing }
+        ensures { result ≡ nothing_planned }
     {
         Plan {
             writes: Vec::new(alloc),

@@ -2,7 +2,7 @@ ghost use Rattle.std.specs.Prelude.{◌≡◌, ◌≤◌, ◌<◌, ◌+◌, ◌^
 ghost use Rattle.outside.specs.Seen.{folder_seen};
 ghost use Rattle.mapt_tool.specs.Ended.{Ended, handing};
 ghost use Rattle.mapt_tool.specs.Limits.{file_limit, command_limit, limit_of};
-ghost use Rattle.mapt_tool.specs.Pieces.{HoldsFrom, IsWhole, PieceFails};
+ghost use Rattle.mapt_tool.specs.Pieces.{HoldsFrom, IsContent, PieceFails};
 ghost use Rattle.mapt_tool.specs.Reading.{Reads};
 
 use crate::status::Status;
@@ -40,7 +40,7 @@ fn read_piece<F: Folder>(
     ensures within { IfOk result (λ n. n ≤ length piece.old) }
     ensures longer { IfOk result (λ n. length bytes.new ≡ length bytes.old + n) }
     ensures holds { IfOk result (λ n. HoldsFrom (F.files folder.old) name.now bytes.old → HoldsFrom (F.files folder.old) name.now bytes.new) }
-    ensures ended { IfOk result (λ n. n ≡ 0 → 0 < length piece.old → HoldsFrom (F.files folder.old) name.now bytes.old → IsWhole (F.files folder.old) name.now bytes.new) }
+    ensures ended { IfOk result (λ n. n ≡ 0 → 0 < length piece.old → HoldsFrom (F.files folder.old) name.now bytes.old → IsContent (F.files folder.old) name.now bytes.new) }
     ensures seen { IfOk result (λ n. folder_seen F.files F.handed F.faults F.last folder.new ≡ handing (folder_seen F.files F.handed F.faults F.last folder.old) n) }
     ensures err { IfErr result (PieceFails (folder_seen F.files F.handed F.faults F.last folder.old) (folder_seen F.files F.handed F.faults F.last folder.new) file (length piece.old)) }
 {

@@ -1,5 +1,5 @@
 ghost use Rattle.std.specs.Prelude.{◌≡◌};
-ghost use Rattle.mapt_tool.specs.Status.{number_of, status_of};
+ghost use Rattle.mapt_tool.specs.Status.{status_number, status_of};
 ghost use Rattle.mapt_tool.specs.declared.status.Status.TheVariants.{NoMemory as OutOfMemory};
 
 use crate::refusal::Refusal;
@@ -44,7 +44,7 @@ pub enum Status {
 impl Status {
     /// The exit status of the program.
     pub fn number(&self) -> u8
-        ensures { result ≡ number_of self.now }
+        ensures { result ≡ status_number self.now }
     {
         match self {
             Status::Done => 0,

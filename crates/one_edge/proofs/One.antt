@@ -23,7 +23,7 @@ use Rattle.pcap_files.specs.Written.{written}
 use Rattle.port_set.specs.PortSet.{claimable_count}
 use Rattle.one_edge.specs.declared.captures.Captures.{Captures}
 use Rattle.one_edge.specs.declared.taken.Taken.{Taken}
-use Rattle.one_edge.specs.Edge.{Edge, IsEdge, IsLeast, HoldsNothing, LacksEdge, own4, own6, far6}
+use Rattle.one_edge.specs.Edge.{Edge, IsEdgeUnder, IsLeastPort, HoldsNothing, LacksEdge, own4, own6, far6}
 use Rattle.one_edge.specs.Served.{IsServed, AreServed, parts_of}
 use Rattle.one_edge.specs.Crossed.{IsCrossed, AreCrossed, AreCaptured, ports_outside}
 
@@ -36,8 +36,8 @@ same_bit false true e = absurd (omega arith)
 same_flag : (a b : Bool) → ◌≡◌ {A = Option Bool} (Some a) (Some b) → a ≡ b
 same_flag a b e = cc
 
-same_proto : (a b : Proto) → ◌≡◌ {A = Option Proto} (Some a) (Some b) → a ≡ b
-same_proto a b e = cc
+one_proto : (a b : Proto) → ◌≡◌ {A = Option Proto} (Some a) (Some b) → a ≡ b
+one_proto a b e = cc
 
 same_addr : (a b : Addr4) → a.0 ≡ b.0 → a ≡ b
 same_addr a b e = ap (λ (n : ℕ). record { 0 = n }) e
@@ -55,7 +55,7 @@ pub same_taken : (e : Edge) (t u : Taken) (octets : List ℕ) → IsServed e t o
 same_taken e t u octets is other =
     let routed : t.head.routed ≡ u.head.routed = is.sound.carried.unrouted ∙ sym other.sound.carried.unrouted in
     let head = same_head t.head u.head octets is.sound.is.fields other.sound.is.fields routed in
-    let proto : t.proto ≡ u.proto = same_proto t.proto u.proto (sym is.sound.carried.protocol ∙ ap (λ (h : Head4). proto4 h.proto) head ∙ other.sound.carried.protocol) in
+    let proto : t.proto ≡ u.proto = one_proto t.proto u.proto (sym is.sound.carried.protocol ∙ ap (λ (h : Head4). proto4 h.proto) head ∙ other.sound.carried.protocol) in
     let read = λ (h : Head4) (proto : Proto). (l4_of proto (payload_of4 h octets)).ports in
     let ports : t.ports ≡ u.ports = is.ports ∙ ap (λ (h : Head4). read h t.proto) head ∙ ap (λ (p : Proto). read u.head p) proto ∙ sym other.ports in
     let made : Taken = record { head = t.head; proto = t.proto; ports = t.ports } in
@@ -80,7 +80,7 @@ same_crossed e number octets a b c d is other =
     let read = headers_of6 other.carried.head other.carried.payload b other.read in
     let head : is.carried.head ≡ other.carried.head = same_headers6 is.carried.head other.carried.head b (subst (λ (octets : List ℕ). HasHeaders6 is.carried.head octets) access (headers_of6 is.carried.head is.carried.payload a is.read)) read in
     let payload : is.carried.payload ≡ other.carried.payload = is.read.payload_is ∙ ap (λ (h : Head6). payload_of6 h a) head ∙ ap (λ (octets : List ℕ). payload_of6 other.carried.head octets) access ∙ sym other.read.payload_is in
-    let proto : is.carried.proto ≡ other.carried.proto = same_proto is.carried.proto other.carried.proto (sym is.sound.protocol ∙ ap (λ (h : Head6). proto6 h.upper) head ∙ other.sound.protocol) in
+    let proto : is.carried.proto ≡ other.carried.proto = one_proto is.carried.proto other.carried.proto (sym is.sound.protocol ∙ ap (λ (h : Head6). proto6 h.upper) head ∙ other.sound.protocol) in
     let made : Parts6 = record { head = is.carried.head; proto = is.carried.proto; payload = is.carried.payload } in
     let first : is.carried ≡ made = refl in
     let carried : is.carried ≡ other.carried = first ∙ rw (head, proto, payload) refl in
@@ -119,12 +119,12 @@ same_holder : (h g : Holder) → ◌≡◌ {A = Option Holder} (Some h) (Some g)
 same_holder h g e = cc
 
 -- a prefix is one edge
-pub same_edge : (book : Book) (prefix : Prefix6) (mtus : Mtus) (e f : Edge) → IsEdge book prefix mtus e → IsEdge book prefix mtus f → e ≡ f
+pub same_edge : (book : Book) (prefix : Prefix6) (mtus : Mtus) (e f : Edge) → IsEdgeUnder book prefix mtus e → IsEdgeUnder book prefix mtus f → e ≡ f
 same_edge book prefix mtus e f is other =
     let rules : e.rules ≡ f.rules = is.by_rules ∙ sym other.by_rules in
     let dmr : e.dmr ≡ f.dmr = is.by_default ∙ sym other.by_default in
     let holder : e.holder ≡ f.holder = same_holder e.holder f.holder (sym is.holds ∙ other.holds) in
-    let claims : IsLeast f.holder e.least = subst (λ (h : Holder). IsLeast h e.least) holder is.claims in
+    let claims : IsLeastPort f.holder e.least = subst (λ (h : Holder). IsLeastPort h e.least) holder is.claims in
     let least : e.least ≡ f.least = rank-one f.holder.offset f.holder.psid_length f.holder.psid e.least f.least 0 claims.1 other.claims.1 in
     let mtus_same : e.mtus ≡ f.mtus = is.between ∙ sym other.between in
     let made : Edge = record { rules = e.rules; dmr = e.dmr; holder = e.holder; least = e.least; mtus = e.mtus } in
@@ -142,7 +142,7 @@ same_made e records one other is same =
     first ∙ rw (access, core) refl
 
 -- a prefix is an edge, or lacks one
-pub edge_or_none : (book : Book) (prefix : Prefix6) (mtus : Mtus) (e : Edge) → IsEdge book prefix mtus e → LacksEdge book prefix → ⊥
+pub edge_or_none : (book : Book) (prefix : Prefix6) (mtus : Mtus) (e : Edge) → IsEdgeUnder book prefix mtus e → LacksEdge book prefix → ⊥
 edge_or_none book prefix mtus e is lacks =
     let none : claimable_count e.holder.offset e.holder.psid_length e.holder.psid ≡ 0 = subst HoldsNothing is.holds lacks in
     let some = rank-below e.holder.offset e.holder.psid_length e.holder.psid e.least 0 is.claims.0 is.claims.1 in

@@ -32,15 +32,15 @@ edge_in one = record {
 }
 
 -- this is a claimable port, and none is less
-abbrev pub IsLeast : Holder → ℕ → Type 0
-IsLeast h port = (port < 65536) × (rank_of h.offset h.psid_length h.psid port ≡ Some 0)
+abbrev pub IsLeastPort : Holder → ℕ → Type 0
+IsLeastPort h port = (port < 65536) × (rank_of h.offset h.psid_length h.psid port ≡ Some 0)
 
 -- the edge with this prefix under this book's rules
-pub record IsEdge (book : Book) (prefix : Prefix6) (mtus : Mtus) (e : Edge) : Type 0 where
+pub record IsEdgeUnder (book : Book) (prefix : Prefix6) (mtus : Mtus) (e : Edge) : Type 0 where
   pub by_rules : e.rules ≡ rules_of book
   pub by_default : e.dmr ≡ dmr_of book
   pub holds : holder_of (rules_of book) prefix ≡ Some e.holder
-  pub claims : IsLeast e.holder e.least
+  pub claims : IsLeastPort e.holder e.least
   pub between : e.mtus ≡ mtus
 
 -- it holds nothing, or no port that it may claim

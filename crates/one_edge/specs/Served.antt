@@ -2,12 +2,13 @@
 use Rattle.std.specs.Prelude.{◌≡◌, ℕ, ◌-◌, ◌≤◌, Bool, true, false, not, IsTrue, ◌&&◌, ◌||◌, ◌==◌, nat_le, if◌then◌else◌, List, [], ◌∷◌, Option, Some, None}
 use Rattle.std.specs.List.{list_all}
 use Rattle.octets.specs.declared.proto.Proto.{Proto}
-use Rattle.octets.specs.declared.proto.Proto.TheVariants.{Tcp, Udp, Icmp}
+use Rattle.octets.specs.declared.proto.Proto.TheVariants.{Tcp, Udp}
 use Rattle.pcap_files.specs.declared.records.Record.{Record}
 use Rattle.ip4_packet.specs.declared.head.Head4.{Head4}
 use Rattle.ip4_packet.specs.Grammar.{payload_of4}
 use Rattle.l4_headers.specs.Transport.{l4_of}
 use Rattle.rule_book.specs.Owner.{covers_of}
+use Rattle.nat_model.specs.Binding.{same_proto}
 use Rattle.xlat46.specs.Head.{is_fragment}
 use Rattle.xlat46.specs.Whole.{Parts4, HasNoTcpUdpCause4}
 use Rattle.one_edge.specs.declared.taken.Taken.{Taken}
@@ -18,7 +19,7 @@ abbrev pub parts_of : Taken → List ℕ → Parts4
 parts_of t octets = record { head = t.head; proto = t.proto; payload = payload_of4 t.head octets }
 
 -- the header is that of a whole packet that lasts for both nodes, goes to no rule's own address, and fits both networks
-pub record IsCarried (e : Edge) (head : Head4) : Type 0 where
+pub record IsServedHead (e : Edge) (head : Head4) : Type 0 where
   pub whole : is_fragment head ≡ false
   pub lasts : 3 ≤ head.ttl
   pub far : covers_of e.rules head.dst.0 ≡ false
@@ -29,7 +30,7 @@ pub record IsCarried (e : Edge) (head : Head4) : Type 0 where
 -- and is such a one
 pub record IsServed (e : Edge) (t : Taken) (octets : List ℕ) : Type 0 where
   pub sound : HasNoTcpUdpCause4 (parts_of t octets) octets
-  pub carried : IsCarried e t.head
+  pub carried : IsServedHead e t.head
   pub ports : t.ports ≡ (l4_of t.proto (payload_of4 t.head octets)).ports
 
 -- each record is served, as these packets
@@ -45,12 +46,6 @@ times_rise last [] = true
 times_rise last (r ∷ rs) = nat_le last r.time && times_rise r.time rs
 
 -- the packet is one of this protocol; two packets are from one address and port
-abbrev pub same_proto : Proto → Proto → Bool
-same_proto Tcp Tcp = true
-same_proto Udp Udp = true
-same_proto Icmp Icmp = true
-same_proto _ _ = false
-
 abbrev pub is_of : Proto → Taken → Bool
 is_of proto t = same_proto proto t.proto
 

@@ -1,5 +1,5 @@
 ghost use Rattle.std.specs.Prelude.{◌≡◌, IfSome, IfNone};
-ghost use Rattle.one_edge.specs.Edge.{edge_in, IsEdge, LacksEdge, outside_port, own4, own6, far6};
+ghost use Rattle.one_edge.specs.Edge.{edge_in, IsEdgeUnder, LacksEdge, outside_port, own4, own6, far6};
 ghost use Rattle.one_edge.specs.Crossed.{ports_outside};
 
 use crate::OneEdge;
@@ -11,7 +11,7 @@ impl OneEdge {
     /// The edge with this prefix under this book's rules. `None` exactly where no rule gives it an address and a port
     /// set, or the set has no port that it may claim (RFC 7597, section 5.2).
     pub fn of(book: Book, prefix: Prefix6, mtus: Mtus) -> Option<OneEdge>
-        ensures found { IfSome result (λ one. IsEdge book prefix mtus (edge_in one)) }
+        ensures found { IfSome result (λ one. IsEdgeUnder book prefix mtus (edge_in one)) }
         ensures lacking { IfNone result (LacksEdge book prefix) }
     {
         let Some(holder) = book.edge_of(prefix) else {

@@ -4,7 +4,7 @@ ghost use Rattle.ip4_packet.specs.declared.head.Head4.{Head4 as Header};
 ghost use Rattle.l4_headers.specs.Transport.{l4_of, IsBadTransport};
 ghost use Rattle.one_edge.specs.declared.taken.Taken.{Taken as Packet};
 ghost use Rattle.one_edge.specs.Edge.{edge_in};
-ghost use Rattle.one_edge.specs.Served.{IsCarried, IsServed, AreServed};
+ghost use Rattle.one_edge.specs.Served.{IsServedHead, IsServed, AreServed};
 
 use crate::OneEdge;
 use crate::taken::Taken;
@@ -41,7 +41,7 @@ impl OneEdge {
     /// Whether a packet with this header is whole, lasts for both nodes, goes to no rule's own address, and fits both
     /// networks.
     fn carries(&self, head: &Head4) -> bool
-        ensures { IsTrue result ↔ IsCarried (edge_in self.now) head.now }
+        ensures { IsTrue result ↔ IsServedHead (edge_in self.now) head.now }
     {
         let len = head.total.saturating_sub(u16::from(head.head_len));
         if head.mf || head.offset != 0 || head.ttl < LEAST_TTL {

@@ -27,7 +27,7 @@ pub record IsError4 (m : Icmp4) (row : Row) : Type 0 where
   pub translated : HasNoRow46 m → ⊥
   pub no_query : row.rest ≢ Query
 
--- the error embeds no packet, or one that didn't go to where the error comes from: its source isn't the destination of the
+-- the error embeds no packet, or one that didn't come from where the error goes to: its source isn't the destination of the
 -- error
 abbrev pub IsBadEmbedded4 : Head4 → Icmp4 → Type 0
 IsBadEmbedded4 h m =

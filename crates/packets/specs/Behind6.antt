@@ -31,8 +31,8 @@ pub record IsError6 (m : Icmp6) (row : Row) : Type 0 where
   pub translated : HasNoRow64 m → ⊥
   pub no_query : row.rest ≢ Query
 
--- The embedded packet went to where the error comes from: its source is the destination of the error. At the relay, to
--- which errors come only from the two ends of a flow, its destination is also the source of the error.
+-- The embedded packet came from where the error goes to: its source is the destination of the error. At the relay, to
+-- which errors come only from the two ends of a flow, it also went to where the error comes from.
 pub record IsAnswered6 (at_relay : Bool) (h : Head6) (inner : Inner6) : Type 0 where
   pub back : inner.head.src ≡ h.dst
   pub from_end : IsTrue at_relay → inner.head.dst ≡ h.src

@@ -44,14 +44,14 @@ Asks4 octets ask =
     × (ask ≡ asked (extent_of4 p.head) (key_of4 from_ipv4 p.head) (flow_of4 p.content).ports octets)
 
 -- from the access network, or from IPv4
-abbrev pub Asks : Bool → List ℕ → Option FragAsk → Type 0
-Asks true octets ask = Asks6 octets ask
-Asks false octets ask = Asks4 octets ask
+abbrev pub AsksFrom : Bool → List ℕ → Option FragAsk → Type 0
+AsksFrom true octets ask = Asks6 octets ask
+AsksFrom false octets ask = Asks4 octets ask
 
 -- they are dropped before anything is asked, for this cause
-abbrev pub IsUnread : Bool → Cause → List ℕ → Type 0
-IsUnread true cause octets = IsDropped6 true cause octets
-IsUnread false cause octets = IsDropped4 cause octets
+abbrev pub IsDroppedFrom : Bool → Cause → List ℕ → Type 0
+IsDroppedFrom true cause octets = IsDropped6 true cause octets
+IsDroppedFrom false cause octets = IsDropped4 cause octets
 
 -- what an ask may be told
 abbrev pub MayBeTold : Option FragAsk → Option FragAnswer → Type 0
@@ -66,8 +66,8 @@ MayBeTold _ _ = ⊥
 
 -- what is told of these octets: an answer of its kind where they ask, and none where they don't
 pub record IsTold (six : Bool) (octets : List ℕ) (told : Option FragAnswer) : Type 0 where
-  pub kind : (ask : Option FragAsk) → Asks six octets ask → MayBeTold ask told
-  pub unread : (cause : Cause) → IsUnread six cause octets → told ≡ None
+  pub kind : (ask : Option FragAsk) → AsksFrom six octets ask → MayBeTold ask told
+  pub unread : (cause : Cause) → IsDroppedFrom six cause octets → told ≡ None
 
 -- the notes stand in 16 stripes
 abbrev pub stripes : ℕ

@@ -18,7 +18,7 @@ use Rattle.transit.specs.declared.passage.Passage.{Passage}
 use Rattle.transit.specs.Hop.{drops, IsCarried, AreFreed}
 use Rattle.transit.specs.Passage64.{IsPassage64}
 use Rattle.transit.specs.Reply.{has_notice, notice6, IsAnswer6}
-use Rattle.relay_node.specs.Relay.{Relay, source_port, embedded_in, extracted, source_of, exit_of, lost}
+use Rattle.relay_node.specs.Relay.{Relay, source_port, embedded_in, extracted, source_addr, exit_of, lost}
 
 -- dropped, and answered from the relay's address embedded in the default mapping rule, where an error may answer it
 abbrev pub IsRefused6 : Relay → Head6 → List ℕ → Cause → Hop → Type 0
@@ -54,14 +54,14 @@ IsSent6 relay p octets ports (Some src) (Some dst) hop = IsPassed6 relay p octet
 abbrev pub Becomes6 : Relay → Packet6 → List ℕ → Ports → Hop → Type 0
 Becomes6 relay p octets ports hop =
     IsSent6 relay p octets ports
-    (source_of relay p.head.src (source_port (flow_of6 p.content).fault ports)) (extracted relay.dmr p.head.dst) hop
+    (source_addr relay p.head.src (source_port (flow_of6 p.content).fault ports)) (extracted relay.dmr p.head.dst) hop
 
 -- fragments that are freed: the later ones among them are taken as packets of the flow
-abbrev pub IsLater6 : List ℕ → Type 0
-IsLater6 octets = (p : Packet6) × IsPacket6 true p octets × (extent_of6 p.head ≡ Later)
+abbrev pub IsLaterFragment6 : List ℕ → Type 0
+IsLaterFragment6 octets = (p : Packet6) × IsPacket6 true p octets × (extent_of6 p.head ≡ Later)
 
 abbrev pub IsOne6 : Relay → Ports → List ℕ → Hop → Type 0
 IsOne6 relay ports octets hop = (p : Packet6) × IsPacket6 true p octets × Becomes6 relay p octets ports hop
 
 abbrev pub AreFreed6 : Relay → Ports → List Parcel → Hop → Type 0
-AreFreed6 relay ports parcels hop = AreFreed IsLater6 (IsOne6 relay ports) parcels hop
+AreFreed6 relay ports parcels hop = AreFreed IsLaterFragment6 (IsOne6 relay ports) parcels hop

@@ -72,11 +72,11 @@ Becomes4 relay p octets ports hop =
     IsSent4 relay p octets ports (own_of relay p.head.dst (destination_port (flow_of4 p.content).fault ports)) hop
 
 -- fragments that are freed: the later ones among them are taken as packets of the flow
-abbrev pub IsLater4 : List ℕ → Type 0
-IsLater4 octets = (p : Packet4) × IsPacket4 p octets × (extent_of4 p.head ≡ Later)
+abbrev pub IsLaterFragment4 : List ℕ → Type 0
+IsLaterFragment4 octets = (p : Packet4) × IsPacket4 p octets × (extent_of4 p.head ≡ Later)
 
 abbrev pub IsOne4 : Relay → Ports → List ℕ → Hop → Type 0
 IsOne4 relay ports octets hop = (p : Packet4) × IsPacket4 p octets × Becomes4 relay p octets ports hop
 
 abbrev pub AreFreed4 : Relay → Ports → List Parcel → Hop → Type 0
-AreFreed4 relay ports parcels hop = AreFreed IsLater4 (IsOne4 relay ports) parcels hop
+AreFreed4 relay ports parcels hop = AreFreed IsLaterFragment4 (IsOne4 relay ports) parcels hop

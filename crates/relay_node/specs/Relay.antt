@@ -51,8 +51,8 @@ address_in NotDefault = None
 
 -- The IPv4 address of a source: that whose MAP address under a rule it is, for this port. A source inside the default
 -- mapping rule is in no rule, and has none.
-abbrev pub source_of : Relay → Addr6 → ℕ → Option Addr4
-source_of relay s port =
+abbrev pub source_addr : Relay → Addr6 → ℕ → Option Addr4
+source_addr relay s port =
     if has_addr6 relay.dmr.prefix s.0 then None else address_in (far_of relay.rules relay.dmr s.0 port)
 
 -- the MAP address of a destination

@@ -6,7 +6,7 @@ ghost use Rattle.frag_table.specs.declared.ask.FragAsk.{FragAsk as AnyAsk};
 ghost use Rattle.packets.specs.declared.asked.Extent.TheVariants.{Later};
 ghost use Rattle.packets.specs.Behind4.{IsDropped4};
 ghost use Rattle.packets.specs.Behind6.{IsDropped6};
-ghost use Rattle.relay_node.specs.Asked.{asked, Asks4, Asks6, Asks, IsUnread, stripe};
+ghost use Rattle.relay_node.specs.Asked.{asked, Asks4, Asks6, AsksFrom, IsDroppedFrom, stripe};
 
 use frag_table::{FragAsk, FragKey};
 use l4_headers::Ports;
@@ -101,12 +101,12 @@ fn frag_of4(alloc: Global, packet: &[u8]) -> Result<Option<FragAsk>, Fault>
 /// Refuses, but for want of memory, exactly the packets that every node drops before it looks at a rule, with the least
 /// of their causes, as `Packet6::read` at the relay and `Packet4::read` do.
 pub fn frag_of(alloc: Global, six: bool, packet: &[u8]) -> Result<Option<FragAsk>, Fault>
-    ensures asked { IfOk result (λ ask. Asks six packet.now ask) }
+    ensures asked { IfOk result (λ ask. AsksFrom six packet.now ask) }
     // The ask of the octets is the one that is given.
-    ensures only { (ask : Option AnyAsk) → Asks six packet.now ask → (result ≡ Ok ask) ⊎ (result ≡ Err WantsMemory) }
-    ensures refused { (cause : AnyCause) → result ≡ Err (Dropped cause) → IsUnread six cause packet.now }
+    ensures only { (ask : Option AnyAsk) → AsksFrom six packet.now ask → (result ≡ Ok ask) ⊎ (result ≡ Err WantsMemory) }
+    ensures refused { (cause : AnyCause) → result ≡ Err (Dropped cause) → IsDroppedFrom six cause packet.now }
     // The least cause is a refusal.
-    ensures cause { (cause : AnyCause) → IsUnread six cause packet.now → (result ≡ Err (Dropped cause)) ⊎ (result ≡ Err WantsMemory) }
+    ensures cause { (cause : AnyCause) → IsDroppedFrom six cause packet.now → (result ≡ Err (Dropped cause)) ⊎ (result ≡ Err WantsMemory) }
 {
     if six {
         frag_of6(alloc, packet)

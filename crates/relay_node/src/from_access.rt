@@ -7,10 +7,10 @@ ghost use Rattle.packets.specs.Asked.{flow_of6};
 ghost use Rattle.packets.specs.Behind6.{IsDropped6};
 ghost use Rattle.packets.specs.Packet6.{IsPacket6};
 ghost use Rattle.transit.specs.Hop.{IsCarried, IsFreed};
-ghost use Rattle.relay_node.specs.Relay.{relay_at, source_port, source_of, extracted, exit_of};
+ghost use Rattle.relay_node.specs.Relay.{relay_at, source_port, source_addr, extracted, exit_of};
 ghost use Rattle.relay_node.specs.Gains.{Gains};
 ghost use Rattle.relay_node.specs.Hop.{IsAnswered, IsHop6};
-ghost use Rattle.relay_node.specs.FromAccess.{ends64, IsRefused6, IsFaulty6, IsPassed6, IsSent6, Becomes6, IsLater6, IsOne6, AreFreed6};
+ghost use Rattle.relay_node.specs.FromAccess.{ends64, IsRefused6, IsFaulty6, IsPassed6, IsSent6, Becomes6, IsLaterFragment6, IsOne6, AreFreed6};
 
 use crate::RelayParams;
 use crate::asked::is_later;
@@ -73,7 +73,7 @@ fn source<V: RuleView>(
     taken: &Packet6,
     ports: Ports,
 ) -> Option<Addr4>
-    ensures { result ≡ source_of (relay_at (V.rules view.now) (V.default_rule view.now) params.now id) taken.now.head.src (source_port (flow_of6 taken.now.content).fault ports) }
+    ensures { result ≡ source_addr (relay_at (V.rules view.now) (V.default_rule view.now) params.now id) taken.now.head.src (source_port (flow_of6 taken.now.content).fault ports) }
 {
     let port = if taken.flow().fault {
         ports.dst
@@ -182,7 +182,7 @@ fn free6<V: RuleView>(
     ports: Ports,
     hop: &mut Hop,
 ) -> Result<(), NoMemory>
-    ensures { OnOk result (Gains (IsFreed IsLater6 (IsOne6 (relay_at (V.rules view.now) (V.default_rule view.now) params.now id) ports) octets.now) hop.old hop.new) }
+    ensures { OnOk result (Gains (IsFreed IsLaterFragment6 (IsOne6 (relay_at (V.rules view.now) (V.default_rule view.now) params.now id) ports) octets.now) hop.old hop.new) }
 {
     match Packet6::read(alloc, octets, true) {
         Ok(taken) => {

@@ -11,7 +11,7 @@ ghost use Rattle.transit.specs.Hop.{IsCarried, IsFreed};
 ghost use Rattle.relay_node.specs.Relay.{relay_at, destination_port, own_of};
 ghost use Rattle.relay_node.specs.Gains.{Gains};
 ghost use Rattle.relay_node.specs.Hop.{IsAnswered, IsHop4};
-ghost use Rattle.relay_node.specs.FromIpv4.{far_end, ends46, IsRefused4, IsFaulty4, IsPassed4, IsSent4, Becomes4, IsLater4, IsOne4, AreFreed4};
+ghost use Rattle.relay_node.specs.FromIpv4.{far_end, ends46, IsRefused4, IsFaulty4, IsPassed4, IsSent4, Becomes4, IsLaterFragment4, IsOne4, AreFreed4};
 
 use crate::RelayParams;
 use crate::asked::is_later;
@@ -188,7 +188,7 @@ fn free4<V: RuleView>(
     ports: Ports,
     hop: &mut Hop,
 ) -> Result<(), NoMemory>
-    ensures { OnOk result (Gains (IsFreed IsLater4 (IsOne4 (relay_at (V.rules view.now) (V.default_rule view.now) params.now id) ports) octets.now) hop.old hop.new) }
+    ensures { OnOk result (Gains (IsFreed IsLaterFragment4 (IsOne4 (relay_at (V.rules view.now) (V.default_rule view.now) params.now id) ports) octets.now) hop.old hop.new) }
 {
     match Packet4::read(alloc, octets) {
         Ok(taken) => {

@@ -17,7 +17,7 @@ use Rattle.nat_model.specs.declared.answer.Answer.{Answer}
 use Rattle.nat_model.specs.declared.answer.Answer.TheVariants.{Out, In}
 use Rattle.packets.specs.declared.packet4.Content4.TheVariants.{Segment, Error}
 use Rattle.packets.specs.declared.packet4.Packet4.{Packet4}
-use Rattle.crossing.specs.Nat44.{nat44, nat44_by, sent_from, received_at}
+use Rattle.crossing.specs.Nat44.{nat44, nat44_by, packet_from, packet_to}
 use Rattle.crossing.specs.Named.{Crossing, Sent, Named, uncut}
 
 abbrev host : Addr4
@@ -82,7 +82,7 @@ crossing taken payload replaced = record { taken = taken; payload = payload; rep
 
 -- ---- from the home to the relay, which turns it
 
-pub the_home_replaces_its_source : nat44 of_host goes_out ≡ Some (sent_from shared 1232 of_host)
+pub the_home_replaces_its_source : nat44 of_host goes_out ≡ Some (packet_from shared 1232 of_host)
 the_home_replaces_its_source = refl
 
 abbrev to_the_relay : Sent
@@ -94,7 +94,7 @@ to_the_relay = record {
       ∷ 4 ∷ 208 ∷ 4 ∷ 212 ∷ 0 ∷ 10 ∷ 9 ∷ 168 ∷ 104 ∷ 105 ∷ [];
 }
 
-pub it_crosses_to_the_relay : Named (crossing of_host first (sent_from shared 1232 of_host)) uncut second to_the_relay
+pub it_crosses_to_the_relay : Named (crossing of_host first (packet_from shared 1232 of_host)) uncut second to_the_relay
 it_crosses_to_the_relay = record {
   octets = refl;
   routed = refl;
@@ -115,7 +115,7 @@ it_crosses_to_the_relay = record {
 
 -- ---- from the relay, which turned it, to the other edge
 
-pub the_other_edge_replaces_its_destination : nat44 turned comes_in ≡ Some (received_at other_host 8080 turned)
+pub the_other_edge_replaces_its_destination : nat44 turned comes_in ≡ Some (packet_to other_host 8080 turned)
 the_other_edge_replaces_its_destination = refl
 
 abbrev from_the_relay : Sent
@@ -127,7 +127,7 @@ from_the_relay = record {
       ∷ 4 ∷ 208 ∷ 31 ∷ 144 ∷ 0 ∷ 10 ∷ 239 ∷ 65 ∷ 104 ∷ 105 ∷ [];
 }
 
-pub it_crosses_from_the_relay : Named (crossing turned second (received_at other_host 8080 turned)) uncut third from_the_relay
+pub it_crosses_from_the_relay : Named (crossing turned second (packet_to other_host 8080 turned)) uncut third from_the_relay
 it_crosses_from_the_relay = record {
   octets = refl;
   routed = refl;
@@ -149,7 +149,7 @@ it_crosses_from_the_relay = record {
 -- ---- from edge to edge, by a forwarding rule: both answers in turn, and one crossing
 
 abbrev from_edge_to_edge : Packet4
-from_edge_to_edge = received_at other_host 8080 (sent_from shared 1232 of_host)
+from_edge_to_edge = packet_to other_host 8080 (packet_from shared 1232 of_host)
 
 pub both_edges_replace_an_end : nat44_by of_host (goes_out ∷ comes_in ∷ []) ≡ Some from_edge_to_edge
 both_edges_replace_an_end = refl
@@ -219,7 +219,7 @@ message_head ttl id dst = record (header ttl id router dst) { proto = 1; total =
 abbrev of_router : Packet4
 of_router = record { head = message_head 250 9 shared; content = Error in_core (row 11 0 3 0 Zero) embedded }
 
-pub the_home_replaces_what_it_embeds : nat44 of_router comes_to_the_host ≡ Some (received_at host 5000 of_router)
+pub the_home_replaces_what_it_embeds : nat44 of_router comes_to_the_host ≡ Some (packet_to host 5000 of_router)
 the_home_replaces_what_it_embeds = refl
 
 abbrev to_the_host : Sent
@@ -234,7 +234,7 @@ to_the_host = record {
       ∷ 192 ∷ 168 ∷ 1 ∷ 10 ∷ 198 ∷ 51 ∷ 100 ∷ 7 ∷ 19 ∷ 136 ∷ 0 ∷ 53 ∷ 0 ∷ 10 ∷ 151 ∷ 198 ∷ 104 ∷ 105 ∷ [];
 }
 
-pub an_error_crosses : Named (crossing of_router (message4 in_core) (received_at host 5000 of_router)) uncut to_the_host.payload to_the_host
+pub an_error_crosses : Named (crossing of_router (message4 in_core) (packet_to host 5000 of_router)) uncut to_the_host.payload to_the_host
 an_error_crosses = record {
   octets = refl;
   routed = refl;

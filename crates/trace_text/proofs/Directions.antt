@@ -35,10 +35,10 @@ use Rattle.transit.specs.Passage46.{IsPassage46, is_message4}
 use Rattle.transit.specs.Passage64.{translation64}
 use Rattle.edge_node.specs.Ends.{ends_out, ends_in, with_far_port}
 use Rattle.edge_node.specs.Asked.{near_addr6}
-use Rattle.relay_node.specs.Relay.{Relay, source_port, source_of, address_in, embedded_in}
+use Rattle.relay_node.specs.Relay.{Relay, source_port, source_addr, address_in, embedded_in}
 use Rattle.relay_node.specs.FromAccess.{ends64}
 use Rattle.relay_node.specs.FromIpv4.{ends46, far_end}
-use Rattle.crossing.specs.Nat44.{sent_from, received_at, content_from, content_to}
+use Rattle.crossing.specs.Nat44.{packet_from, packet_to, content_from, content_to}
 use Rattle.crossing.specs.Named.{Portion, uncut, piece_at}
 use Rattle.crossing.specs.Transfer.{Transfer, IsTakenAs, IsThere, IsSentThere, IsBack, ComesOf, FitsEnds, packet_with, content_with}
 use Rattle.crossing.proofs.Error.{ReadsError}
@@ -61,7 +61,7 @@ address_told Spoofed a e = cc
 address_told NotDefault a e = cc
 
 -- the source that the relay accepts
-pub sourced : (relay : Relay) (s : Addr6) (port : ℕ) (a : Addr4) → source_of relay s port ≡ Some a → ipv4_behind relay.dmr s.0 ≡ Some a.0
+pub sourced : (relay : Relay) (s : Addr6) (port : ℕ) (a : Addr4) → source_addr relay s port ≡ Some a → ipv4_behind relay.dmr s.0 ≡ Some a.0
 sourced relay s port a e = by (has_addr6 relay.dmr.prefix s.0) e
   where
     by : (b : Bool) → cond b None (address_in (far_of relay.rules relay.dmr s.0 port)) ≡ Some a → ipv4_behind relay.dmr s.0 ≡ Some a.0
@@ -281,7 +281,7 @@ to_relay setting step (Out from port src6 dst6 freed) relay c is =
     let dst = one_behind setting.dmr dst6.0 got.dst p.head.dst destination holds.destination in
     let makes = back_with relay.params.mtus setting.mtus relay.id (id_of setting) q c.six c.four plain is.relay_is.mtus is.relay_is.id got.is.1 in
     record {
-      replaced = sent_from from port p;
+      replaced = packet_from from port p;
       by_answers = refl;
       comes = elim saw.flow [
         | inl flow ↦ comes_of setting c six plain true from p.head.dst (content_from from port p.content) through is.arrives got.is.0 makes src dst
@@ -333,7 +333,7 @@ from_relay setting relay step (In to port from peer freed) c is =
     let src = one_behind setting.dmr (embedded_in relay.dmr p.head.src).0 from p.head.src told holds in
     let makes = is.received.1 in
     record {
-      replaced = received_at to port p;
+      replaced = packet_to to port p;
       by_answers = refl;
       comes = elim saw.flow [
         | inl flow ↦ comes_of setting c six plain false p.head.src to (content_to to port p.content) through is.arrives is.received.0 makes src refl
@@ -370,7 +370,7 @@ edge_to_edge setting one other c is = by one.answer other.answer is.out is.fits_
         let content = content_to to port (content_from out_from out_port p.content) in
         let makes = received.1 in
         record {
-          replaced = received_at to port (sent_from out_from out_port p);
+          replaced = packet_to to port (packet_from out_from out_port p);
           by_answers = refl;
           comes = elim saw.flow [
             | inl flow ↦ comes_of setting c six plain false out_from to content through is.arrives received.0 makes src refl

@@ -8,7 +8,7 @@ use Rattle.packet_faults.specs.declared.hop.Hop.{Hop}
 use Rattle.packets.specs.declared.packet4.Packet4.{Packet4}
 use Rattle.packets.specs.declared.packet6.Packet6.{Packet6}
 use Rattle.packets.specs.Asked.{flow_of4, flow_of6}
-use Rattle.relay_node.specs.Relay.{Relay, source_port, destination_port, source_of, own_of, extracted}
+use Rattle.relay_node.specs.Relay.{Relay, source_port, destination_port, source_addr, own_of, extracted}
 use Rattle.relay_node.specs.FromAccess.{Becomes6, IsSent6}
 use Rattle.relay_node.specs.FromIpv4.{Becomes4, IsSent4, ends46}
 use Rattle.crossing.specs.Transfer.{FitsEnds}
@@ -16,9 +16,9 @@ use Rattle.trace_text.specs.Hops.{ArePortsOf4, ArePortsOf6}
 use Rattle.trace_text.specs.Relayed.{IsRelayed6, IsRelayed4}
 
 pub relayed6 : (relay : Relay) (q : Packet6) (six : List ℕ) (ports : Ports) (hop : Hop) → ArePortsOf6 q.content ports → Becomes6 relay q six ports hop → IsRelayed6 relay q six hop
-relayed6 relay q six ports hop flow is = by (source_of relay q.head.src (source_port (flow_of6 q.content).fault ports)) (extracted relay.dmr q.head.dst) refl refl is
+relayed6 relay q six ports hop flow is = by (source_addr relay q.head.src (source_port (flow_of6 q.content).fault ports)) (extracted relay.dmr q.head.dst) refl refl is
   where
-    by : (src : Option Addr4) (dst : Option ℕ) → source_of relay q.head.src (source_port (flow_of6 q.content).fault ports) ≡ src → extracted relay.dmr q.head.dst ≡ dst → IsSent6 relay q six ports src dst hop → IsRelayed6 relay q six hop
+    by : (src : Option Addr4) (dst : Option ℕ) → source_addr relay q.head.src (source_port (flow_of6 q.content).fault ports) ≡ src → extracted relay.dmr q.head.dst ≡ dst → IsSent6 relay q six ports src dst hop → IsRelayed6 relay q six hop
     by None dst one other sent = inl (Spoofed, sent)
     by (Some src) None one other sent = inl (NotDefault, sent)
     by (Some src) (Some dst) one other sent =

@@ -27,7 +27,7 @@ use Rattle.crossing.specs.Transfer.{Transfer, FitsPorts, IsTakenAs, IsPieceThere
 use Rattle.crossing.proofs.Over.{seen, FlowMay}
 use Rattle.crossing.proofs.Uncut.{FlowIs}
 use Rattle.crossing.proofs.Together.{comes_together}
-use Rattle.crossing.specs.Nat44.{nat44, sent_from, received_at, content_from, content_to}
+use Rattle.crossing.specs.Nat44.{nat44, packet_from, packet_to, content_from, content_to}
 use Rattle.crossing.specs.Transfer.{FitsEnds}
 use Rattle.map_rules.specs.declared.dmr.Dmr.{Dmr}
 use Rattle.nat_model.specs.declared.answer.Answer.{Answer}
@@ -195,7 +195,7 @@ pieces_to_relay setting edge c replaced is = by edge.answer is.answered is.fits 
         let holds = holds_out setting.dmr edge.step p.head.dst from port src6 dst6 freed is.rules (dst_fits p.head c.octets is.taken.are is.taken.is.is.fields) answered in
         let one : OnePiece t c.octets true (RelayTakes setting) = λ (octets four : List ℕ) (at : ℕ) (there : IsPieceThere t at octets) (takes : RelayTakes setting octets four).
         relay_piece setting c from port src6 dst6 octets four at given taken refl refl refl replaces.fits holds there takes in
-        subst (λ (r : Packet4). ArriveWhole setting c r) (same (sent_from from port p) replaced e)
+        subst (λ (r : Packet4). ArriveWhole setting c r) (same (packet_from from port p) replaced e)
         (arrive setting c six given true (RelayTakes setting) from p.head.dst (content_from from port p.content) is.taken ends sent one is.received refl refl replaces)
     by (Turn from port freed) answered fits sent e = absurd sent
     by (In to port from peer freed) answered fits sent e = absurd sent
@@ -220,7 +220,7 @@ edge_piece setting c six source to port octets four at given taken is_src is_dst
     (λ (flow : FlowIs p.content six q.content). subst (λ (ports : Ports). PortsAre p.content plain.ports ports) (sym is_ports) (read_far p.content six port q.content flow)) takes.received.1 in
     (q, record { is = takes.arrives; lasts = takes.received.0; ports = fits; back = back })
 
-pub pieces_from_relay : (setting : Setting) (relay : Relay) (to : Addr4) (port : ℕ) (c : PassedInPieces) → PiecesFromRelay setting relay to port c → ArriveWhole setting c (received_at to port c.taken)
+pub pieces_from_relay : (setting : Setting) (relay : Relay) (to : Addr4) (port : ℕ) (c : PassedInPieces) → PiecesFromRelay setting relay to port c → ArriveWhole setting c (packet_to to port c.taken)
 pieces_from_relay setting relay to port c is =
     let p = c.taken in
     let flow4 = flow_of4 p.content in
@@ -238,13 +238,13 @@ pieces_from_relay setting relay to port c is =
     arrive setting c six given false (EdgeTakes setting to port) p.head.src to (content_to to port p.content) is.taken is.sent.fits passage one is.received refl refl replaces
 
 pub pieces_between_edges : (setting : Setting) (edge : EdgeAnswer) (to : Addr4) (port : ℕ) (c : PassedInPieces) (replaced : Packet4) → PiecesBetweenEdges setting edge to port c → nat44 c.taken edge.answer ≡ Some replaced
-    → ArriveWhole setting c (received_at to port replaced)
+    → ArriveWhole setting c (packet_to to port replaced)
 pieces_between_edges setting edge to port c replaced is = by edge.answer is.answered is.fits_out is.sent
   where
     same : (p r : Packet4) → ◌≡◌ {A = Option Packet4} (Some p) (Some r) → p ≡ r
     same p r e = cc
 
-    by : (answer : Answer) → AnsweredOut edge.step c.taken.head.dst answer → FitsAnswer answer → EdgeSends setting.mtus answer c.taken c.octets (Cut c.pieces) → nat44 c.taken answer ≡ Some replaced → ArriveWhole setting c (received_at to port replaced)
+    by : (answer : Answer) → AnsweredOut edge.step c.taken.head.dst answer → FitsAnswer answer → EdgeSends setting.mtus answer c.taken c.octets (Cut c.pieces) → nat44 c.taken answer ≡ Some replaced → ArriveWhole setting c (packet_to to port replaced)
     by (Out from out_port src6 dst6 freed) answered fits sent e =
         let p = c.taken in
         let flow4 = flow_of4 p.content in
@@ -258,7 +258,7 @@ pieces_between_edges setting edge to port c replaced is = by edge.answer is.answ
         let holds = holds_out setting.dmr edge.step p.head.dst from out_port src6 dst6 freed is.rules (dst_fits p.head c.octets is.taken.are is.taken.is.is.fields) answered in
         let one : OnePiece t c.octets false (EdgeTakes setting to port) = λ (octets four : List ℕ) (at : ℕ) (there : IsPieceThere t at octets) (takes : EdgeTakes setting to port octets four).
         edge_piece setting c six from to port octets four at given taken refl refl refl replaces.fits holds.source there takes in
-        subst (λ (r : Packet4). ArriveWhole setting c (received_at to port r)) (same (sent_from from out_port p) replaced e)
+        subst (λ (r : Packet4). ArriveWhole setting c (packet_to to port r)) (same (packet_from from out_port p) replaced e)
         (arrive setting c six given false (EdgeTakes setting to port) from to (content_to to port (content_from from out_port p.content)) is.taken ends sent one is.received refl refl replaces)
     by (Turn from out_port freed) answered fits sent e = absurd sent
     by (In host out_port from peer freed) answered fits sent e = absurd sent

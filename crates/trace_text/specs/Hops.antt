@@ -26,7 +26,7 @@ use Rattle.transit.specs.declared.passage.Passage.TheVariants.{Sent, Cut}
 use Rattle.transit.specs.Passage46.{IsPassage46}
 use Rattle.transit.specs.Passage64.{IsPassage64}
 use Rattle.edge_node.specs.Ends.{ends_out, ends_in}
-use Rattle.relay_node.specs.Relay.{Relay, source_port, destination_port, source_of, own_of, extracted}
+use Rattle.relay_node.specs.Relay.{Relay, source_port, destination_port, source_addr, own_of, extracted}
 use Rattle.relay_node.specs.FromAccess.{ends64}
 use Rattle.relay_node.specs.FromIpv4.{ends46}
 use Rattle.crossing.specs.Named.{Portion, uncut, piece_at}
@@ -87,6 +87,6 @@ pub record RelayReceives (relay : Relay) (q : Packet6) (six : List ℕ) (passage
   pub flow : ArePortsOf6 q.content ports
   pub src : Addr4
   pub dst : Addr4
-  pub source : source_of relay q.head.src (source_port (flow_of6 q.content).fault ports) ≡ Some src
+  pub source : source_addr relay q.head.src (source_port (flow_of6 q.content).fault ports) ≡ Some src
   pub destination : extracted relay.dmr q.head.dst ≡ Some dst.0
   pub is : IsPassage64 (record { mtus = relay.params.mtus; ends = ends64 src dst ports; id = relay.id }) q (payload_of6 q.head six) passage

@@ -4,3 +4,4 @@ pub mod Hops
 pub mod Crossings
 pub mod Pieces
 pub mod Relayed
+pub mod Emitted

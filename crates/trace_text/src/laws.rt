@@ -3,6 +3,7 @@
 ghost use Rattle.std.specs.Prelude.{◌≡◌, ℕ, List, [], ◌∷◌, Some};
 ghost use Rattle.octets.specs.declared.address.Addr4.{Addr4};
 ghost use Rattle.octets.specs.declared.address.Addr6.{Addr6};
+ghost use Rattle.octets.specs.declared.parcel.Parcel.{Parcel};
 ghost use Rattle.l4_headers.specs.declared.ports.Ports.{Ports};
 ghost use Rattle.map_rules.specs.declared.rule.Rule.{Rule};
 ghost use Rattle.map_rules.specs.declared.dmr.Dmr.{Dmr};
@@ -10,6 +11,7 @@ ghost use Rattle.map_rules.specs.Embedding.{extract_of};
 ghost use Rattle.rule_book.specs.declared.view.FarOf.TheVariants.{Addr};
 ghost use Rattle.rule_book.specs.Far.{far_of};
 ghost use Rattle.nat_model.specs.declared.answer.Answer.{Answer};
+ghost use Rattle.nat_model.specs.declared.answer.Answer.TheVariants.{Out as LetOut, In as LetIn};
 ghost use Rattle.packets.specs.declared.packet4.Packet4.{Packet4};
 ghost use Rattle.packets.specs.declared.packet6.Packet6.{Packet6};
 ghost use Rattle.packets.specs.Asked.{flow_of4};
@@ -17,10 +19,13 @@ ghost use Rattle.relay_node.specs.FromAccess.{Becomes6};
 ghost use Rattle.relay_node.specs.FromIpv4.{Becomes4, ends46};
 ghost use Rattle.relay_node.specs.Relay.{Relay, destination_port, own_of};
 ghost use Rattle.packet_faults.specs.declared.hop.Hop.{Hop};
-ghost use Rattle.crossing.specs.Nat44.{nat44, received_at};
+ghost use Rattle.edge_node.specs.declared.way.EdgeParams.{EdgeParams};
+ghost use Rattle.edge_node.specs.Hop.{FromLan, FromAccess};
+ghost use Rattle.crossing.specs.Nat44.{nat44, packet_to};
 ghost use Rattle.crossing.specs.Transfer.{FitsEnds};
 ghost use Rattle.trace_text.specs.Hops.{ArePortsOf4, ArePortsOf6};
 ghost use Rattle.trace_text.specs.Relayed.{IsRelayed4, IsRelayed6};
+ghost use Rattle.trace_text.specs.Emitted.{IsSentOut, IsTakenIn};
 ghost use Rattle.trace_text.specs.Answered.{Step};
 ghost use Rattle.trace_text.specs.Behind.{ipv4_behind};
 ghost use Rattle.trace_text.specs.Crossings.{Passed, Setting, EdgeAnswer, ToRelay, FromRelay, EdgeToEdge, IsOneStep};
@@ -57,7 +62,7 @@ pub fn pieces_to_the_relay_arrive_whole()
 /// The same of a packet that the relay cuts, where the edge takes all pieces in for one host and port.
 pub fn pieces_from_the_relay_arrive_whole()
     ensures { (setting : Setting) (relay : Relay) (to : Addr4) (port : ℕ) (c : PassedInPieces)
-        → PiecesFromRelay setting relay to port c → ArriveWhole setting c (received_at to port c.taken) }
+        → PiecesFromRelay setting relay to port c → ArriveWhole setting c (packet_to to port c.taken) }
 {}
 
 /// The same of a packet that goes from an edge to an edge.
@@ -65,7 +70,7 @@ pub fn pieces_between_edges_arrive_whole()
     ensures { (setting : Setting) (edge : EdgeAnswer) (to : Addr4) (port : ℕ) (c : PassedInPieces) (replaced : Packet4)
         → PiecesBetweenEdges setting edge to port c
         → nat44 c.taken edge.answer ≡ Some replaced
-        → ArriveWhole setting c (received_at to port replaced) }
+        → ArriveWhole setting c (packet_to to port replaced) }
 {}
 
 /// An IPv6 source that is accepted, outer or embedded, is inside the default mapping rule and embeds the IPv4 address, or is a
@@ -96,4 +101,21 @@ pub fn the_relay_sends_what_it_does_not_lose()
         → FitsEnds (ends46 relay p own ports))
         → Becomes4 relay p octets ports hop
         → IsRelayed4 relay p octets hop }
+{}
+
+/// What the hop of an edge does with a packet of its LAN that its machine lets out: it is sent as the laws of crossings say, and then
+/// it leaves, or is dropped with an answer.
+pub fn an_edge_sends_what_its_machine_lets_out()
+    ensures { (params : EdgeParams) (id : ℕ) (from : Addr4) (port : ℕ) (src6 dst6 : Addr6) (freed : List Parcel)
+        (p : Packet4) (octets : List ℕ) (hop : Hop)
+        → FromLan (record { params = params; id = id }) (LetOut from port src6 dst6 freed) octets p hop
+        → IsSentOut params id (LetOut from port src6 dst6 freed) p octets hop }
+{}
+
+/// The same with a packet from the access network that its machine lets in.
+pub fn an_edge_receives_what_its_machine_lets_in()
+    ensures { (params : EdgeParams) (id : ℕ) (to : Addr4) (port : ℕ) (from peer : Addr4) (freed : List Parcel)
+        (q : Packet6) (six : List ℕ) (hop : Hop)
+        → FromAccess (record { params = params; id = id }) (LetIn to port from peer freed) six q hop
+        → IsTakenIn params id (LetIn to port from peer freed) q six hop }
 {}

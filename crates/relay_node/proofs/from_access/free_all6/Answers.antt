@@ -4,7 +4,7 @@ use Rattle.octets.specs.declared.parcel.Parcel.{Parcel}
 use Rattle.transit.specs.Hop.{IsFreed}
 use Rattle.relay_node.specs.Relay.{relay_at}
 use Rattle.relay_node.specs.Gains.{Gains}
-use Rattle.relay_node.specs.FromAccess.{IsLater6, IsOne6, AreFreed6}
+use Rattle.relay_node.specs.FromAccess.{IsLaterFragment6, IsOne6, AreFreed6}
 use Rattle.relay_node.proofs.Gained.{unmoved, freed_more}
 use Rattle.relay_node.proofs.from_access.free_all6.Goals as goal
 
@@ -19,9 +19,9 @@ loop-parcel-preserved g c =
     let parcels = c.args.parcels.now in
     let i = c.loop-parcel.parcel-index in
     let item = c.parcel-item.result in
-    let Freed : List ℕ → Type 0 = λ octets. Gains (IsFreed IsLater6 (IsOne6 relay c.args.ports) octets) c.loop-parcel.hop c.free6.new.hop in
+    let Freed : List ℕ → Type 0 = λ octets. Gains (IsFreed IsLaterFragment6 (IsOne6 relay c.args.ports) octets) c.loop-parcel.hop c.free6.new.hop in
     let freed : Freed item.bytes = subst Freed c.as_slice.ensures c.in_ok-free6.ensures in
     let within : i < length parcels = c.loop-parcel-test.true in
     let e : take i parcels ++ item ∷ [] ≡ take (i + 1) parcels = ap (λ (x : Parcel). take i parcels ++ x ∷ []) c.parcel-item.is ∙ sym (take_more parcels i item within) in
     subst (λ (ps : List Parcel). Gains (AreFreed6 relay c.args.ports ps) c.args.hop.now c.free6.new.hop) e
-    (freed_more IsLater6 (IsOne6 relay c.args.ports) (take i parcels) item c.args.hop.now c.loop-parcel.hop c.free6.new.hop c.loop-parcel.invariant freed)
+    (freed_more IsLaterFragment6 (IsOne6 relay c.args.ports) (take i parcels) item c.args.hop.now c.loop-parcel.hop c.free6.new.hop c.loop-parcel.invariant freed)

@@ -4,7 +4,7 @@ use Rattle.octets.specs.declared.parcel.Parcel.{Parcel}
 use Rattle.transit.specs.Hop.{IsFreed}
 use Rattle.relay_node.specs.Relay.{relay_at}
 use Rattle.relay_node.specs.Gains.{Gains}
-use Rattle.relay_node.specs.FromIpv4.{IsLater4, IsOne4, AreFreed4}
+use Rattle.relay_node.specs.FromIpv4.{IsLaterFragment4, IsOne4, AreFreed4}
 use Rattle.relay_node.proofs.Gained.{unmoved, freed_more}
 use Rattle.relay_node.proofs.from_ipv4.free_all4.Goals as goal
 
@@ -19,9 +19,9 @@ loop-parcel-preserved g c =
     let parcels = c.args.parcels.now in
     let i = c.loop-parcel.parcel-index in
     let item = c.parcel-item.result in
-    let Freed : List ℕ → Type 0 = λ octets. Gains (IsFreed IsLater4 (IsOne4 relay c.args.ports) octets) c.loop-parcel.hop c.free4.new.hop in
+    let Freed : List ℕ → Type 0 = λ octets. Gains (IsFreed IsLaterFragment4 (IsOne4 relay c.args.ports) octets) c.loop-parcel.hop c.free4.new.hop in
     let freed : Freed item.bytes = subst Freed c.as_slice.ensures c.in_ok-free4.ensures in
     let within : i < length parcels = c.loop-parcel-test.true in
     let e : take i parcels ++ item ∷ [] ≡ take (i + 1) parcels = ap (λ (x : Parcel). take i parcels ++ x ∷ []) c.parcel-item.is ∙ sym (take_more parcels i item within) in
     subst (λ (ps : List Parcel). Gains (AreFreed4 relay c.args.ports ps) c.args.hop.now c.free4.new.hop) e
-    (freed_more IsLater4 (IsOne4 relay c.args.ports) (take i parcels) item c.args.hop.now c.loop-parcel.hop c.free4.new.hop c.loop-parcel.invariant freed)
+    (freed_more IsLaterFragment4 (IsOne4 relay c.args.ports) (take i parcels) item c.args.hop.now c.loop-parcel.hop c.free4.new.hop c.loop-parcel.invariant freed)

@@ -3,12 +3,12 @@ use Rattle.std.specs.Prelude.{Result, Ok, Err, Option, None, Bool}
 use Rattle.octets.specs.declared.cause.Fault.{Fault}
 use Rattle.octets.specs.declared.cause.Fault.TheVariants.{NoMemory}
 use Rattle.frag_table.specs.declared.ask.FragAsk.{FragAsk}
-use Rattle.relay_node.specs.Asked.{Asks, MayBeTold, IsTold}
+use Rattle.relay_node.specs.Asked.{AsksFrom, MayBeTold, IsTold}
 use Rattle.relay_node.proofs.tests.is_whole.Goals as goal
 
 -- where nothing is asked, nothing is told
 whole_told : (six : Bool) (octets : List ℕ) (r : Result (Option FragAsk) Fault) (given : Option FragAsk) → r ≡ Ok given → given ≡ None
-    → ((ask : Option FragAsk) → Asks six octets ask → (r ≡ Ok ask) ⊎ (r ≡ Err NoMemory)) → IsTold six octets None
+    → ((ask : Option FragAsk) → AsksFrom six octets ask → (r ≡ Ok ask) ⊎ (r ≡ Err NoMemory)) → IsTold six octets None
 whole_told six octets r given is none only = record { kind = λ ask asks. by ask (only ask asks); unread = λ cause dropped. refl }
   where
     by : (ask : Option FragAsk) → (r ≡ Ok ask) ⊎ (r ≡ Err NoMemory) → MayBeTold ask None

@@ -5,14 +5,14 @@ use Rattle.octets.specs.declared.cause.Fault.{Fault}
 use Rattle.octets.specs.declared.cause.Fault.TheVariants.{Drop, NoMemory}
 use Rattle.frag_table.specs.declared.ask.FragAsk.{FragAsk}
 use Rattle.frag_table.specs.declared.answer.FragAnswer.{FragAnswer}
-use Rattle.relay_node.specs.Asked.{Asks, IsUnread, MayBeTold, IsTold}
+use Rattle.relay_node.specs.Asked.{AsksFrom, IsDroppedFrom, MayBeTold, IsTold}
 use Rattle.relay_node.proofs.tests.hops.is_told.Goals as goal
 
 -- a packet that asks is told what its ask may be told
 told_asked : (six : Bool) (octets : List ℕ) (r : Result (Option FragAsk) Fault) (given : Option FragAsk) (told : Option FragAnswer)
     → r ≡ Ok given → MayBeTold given told
-    → ((ask : Option FragAsk) → Asks six octets ask → (r ≡ Ok ask) ⊎ (r ≡ Err NoMemory))
-    → ((cause : Cause) → IsUnread six cause octets → (r ≡ Err (Drop cause)) ⊎ (r ≡ Err NoMemory))
+    → ((ask : Option FragAsk) → AsksFrom six octets ask → (r ≡ Ok ask) ⊎ (r ≡ Err NoMemory))
+    → ((cause : Cause) → IsDroppedFrom six cause octets → (r ≡ Err (Drop cause)) ⊎ (r ≡ Err NoMemory))
     → IsTold six octets told
 told_asked six octets r given told is may only caused = record { kind = λ ask asks. by ask (only ask asks); unread = λ cause dropped. absurd (never cause (caused cause dropped)) }
   where
@@ -27,7 +27,7 @@ told_asked six octets r given told is may only caused = record { kind = λ ask a
 -- one that is dropped is told nothing
 told_nothing : (six : Bool) (octets : List ℕ) (r : Result (Option FragAsk) Fault) (given : Cause) (told : Option FragAnswer)
     → r ≡ Err (Drop given) → told ≡ None
-    → ((ask : Option FragAsk) → Asks six octets ask → (r ≡ Ok ask) ⊎ (r ≡ Err NoMemory))
+    → ((ask : Option FragAsk) → AsksFrom six octets ask → (r ≡ Ok ask) ⊎ (r ≡ Err NoMemory))
     → IsTold six octets told
 told_nothing six octets r given told is none only = record { kind = λ ask asks. absurd (never ask (only ask asks)); unread = λ cause dropped. none }
   where
