@@ -4,6 +4,7 @@
 
 mod ask;
 mod drops;
+mod equal;
 mod freed;
 mod hop;
 mod inward;
@@ -11,6 +12,7 @@ mod outward;
 mod way;
 
 pub use ask::ask_of;
+pub use equal::equal_values_are_the_same;
 pub use hop::emit;
 pub use packet_faults::{Causes, Hop, Out, Outs};
 pub use way::{EdgeParams, Way};

@@ -4,6 +4,7 @@
 
 mod answer;
 mod ask;
+mod equal;
 mod key;
 mod laws;
 mod live;
@@ -14,6 +15,7 @@ mod table;
 
 pub use answer::FragAnswer;
 pub use ask::FragAsk;
+pub use equal::equal_values_are_the_same;
 pub use key::FragKey;
 pub use laws::notes_keep_their_bounds;
 pub use note::Note;

@@ -3,6 +3,7 @@
 #![tactic(auto)]
 
 mod ends;
+mod equal;
 mod inner;
 mod laws;
 mod mtu;
@@ -11,6 +12,7 @@ mod to_icmp4;
 mod to_icmp6;
 
 pub use ends::Ends;
+pub use equal::equal_values_are_the_same;
 pub use laws::{a_translated_icmpv4_sum_is_right, a_translated_icmpv6_sum_is_right};
 pub use table::{Rest, Row};
 pub use to_icmp4::{answer64, embedded64, icmp64, translation64};

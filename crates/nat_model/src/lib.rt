@@ -8,6 +8,7 @@ mod binding;
 mod bindings;
 mod claim;
 mod entry;
+mod equal;
 mod fragment;
 mod laws;
 mod machine;
@@ -22,6 +23,7 @@ pub use ask::{Ask, End4, Far, Part};
 pub use binding::Binding;
 pub use bindings::Bindings;
 pub use entry::{Entry, Mark, Who};
+pub use equal::equal_values_are_the_same;
 pub use laws::{
     no_port_is_left_exactly_where_all_are_bound, other_protocols_keep_their_bindings,
     two_bindings_never_share_a_port, what_comes_in_goes_to_the_binding_with_its_port,

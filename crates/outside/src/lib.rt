@@ -3,6 +3,7 @@
 //! operating system.
 #![tactic(auto)]
 
+mod equal;
 mod file_id;
 mod folder;
 mod gate;
@@ -15,6 +16,7 @@ mod store;
 mod sure_folder;
 mod sure_sink;
 
+pub use equal::equal_values_are_the_same;
 pub use file_id::{Failure, FileId, Operation, OutFault};
 pub use folder::Folder;
 pub use gate::{FreeGate, Gate};

@@ -3,9 +3,11 @@
 #![tactic(auto)]
 
 mod asked;
+mod equal;
 mod packet4;
 mod packet6;
 
 pub use asked::{Extent, Flow};
+pub use equal::equal_values_are_the_same;
 pub use packet4::{Content4, Packet4};
 pub use packet6::{Content6, Packet6};

@@ -2,6 +2,7 @@
 #![tactic(auto)]
 
 mod asked;
+mod equal;
 mod exit;
 mod from_access;
 mod from_ipv4;
@@ -9,6 +10,7 @@ mod hop;
 mod params;
 
 pub use asked::{frag_of, stripe_of};
+pub use equal::equal_values_are_the_same;
 pub use hop::relay_hop;
 pub use params::RelayParams;
 

@@ -5,6 +5,7 @@
 mod codes;
 mod container;
 mod digits;
+mod equal;
 mod fault;
 mod item;
 mod laws;
@@ -20,6 +21,7 @@ mod write;
 
 pub use container::Container;
 pub use digits::{HexFault, read_hex};
+pub use equal::equal_values_are_the_same;
 pub use fault::OptionFault;
 pub use item::Item;
 pub use laws::octets_read_as_one_container;

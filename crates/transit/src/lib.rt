@@ -1,12 +1,14 @@
 //! A packet on its way through a node: translated, and sent, cut, or dropped with an ICMP error that says why.
 #![tactic(auto)]
 
+mod equal;
 mod exit;
 mod passage;
 mod reply;
 mod to_ipv4;
 mod to_ipv6;
 
+pub use equal::equal_values_are_the_same;
 pub use exit::{Exit, drop_packet, nothing, send, send_pieces};
 pub use passage::Passage;
 pub use reply::{reply4, reply6};
