@@ -1,12 +1,11 @@
 //! What holds of configurations beyond one call. Each law is the contract of a function that
 //! does nothing.
 
-ghost use Rattle.std.specs.Prelude.{◌≡◌, ◌↔◌, ◌+◌, ℕ, List, length, not, IsTrue, Some, None, Result};
+ghost use Rattle.std.specs.Prelude.{◌≡◌, ◌↔◌, ◌+◌, ℕ, List, length, not, Some, None, Result};
 ghost use Rattle.std.specs.List.{filter, flat_map, count_by};
 ghost use Rattle.octets.specs.Place.{IsFirstPlace};
 ghost use Rattle.map_rules.specs.declared.dmr.Dmr.{Dmr as DmrType};
 ghost use Rattle.mapt_setup.specs.declared.edge.EdgeLine.{EdgeLine as EdgeType};
-ghost use Rattle.mapt_setup.specs.declared.fault.SetupCause.{SetupCause as CauseType};
 ghost use Rattle.mapt_setup.specs.declared.fault.SetupCause.TheVariants.{EdgeName, EdgeOverlap, EdgeOverDmr};
 ghost use Rattle.mapt_setup.specs.declared.fault.SetupFault.TheVariants.{Refused};
 ghost use Rattle.mapt_setup.specs.Crowd.{has_name_of, is_crowded, is_over, edge_fault, AreApart};
@@ -18,8 +17,6 @@ ghost use Rattle.mapt_setup.specs.declared.capture.Capture.{Capture as CaptureTy
 ghost use Rattle.mapt_setup.specs.declared.moves.MoveLine.{MoveLine as MoveType};
 ghost use Rattle.mapt_setup.specs.declared.script.ScriptItem.{ScriptItem as ItemType};
 ghost use Rattle.mapt_setup.specs.Script.{IsScript, is_still, segments_of};
-
-use crate::{SetupCause, SetupFault};
 
 /// Octets have at most one answer: what they set up, or the first fault.
 pub fn octets_have_at_most_one_answer()
@@ -39,12 +36,6 @@ pub fn refused_edges_are_the_first()
     ensures over_dmr { (edges : List EdgeType) (dmr : DmrType) (i : ℕ)
         → edge_fault edges dmr ≡ Some (Refused EdgeOverDmr i)
         → IsFirstPlace (is_over dmr) edges i }
-{}
-
-/// Two causes, or two faults, are `==` exactly where they are the same.
-pub fn equal_faults_are_the_same()
-    ensures cause { (one other : CauseType) → IsTrue (⟦<SetupCause as PartialEq>⟧.eq one other) ↔ (one ≡ other) }
-    ensures fault { (one other : SetupFaultType) → IsTrue (⟦<SetupFault as PartialEq>⟧.eq one other) ↔ (one ≡ other) }
 {}
 
 /// A setup's changes and captures have at most one script.

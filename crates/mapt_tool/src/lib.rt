@@ -3,6 +3,7 @@
 
 mod asked;
 mod carrying;
+mod equal;
 mod laws;
 mod plan;
 mod printed;
@@ -13,6 +14,7 @@ mod status;
 mod tool;
 mod words;
 
+pub use equal::equal_values_are_the_same;
 pub use laws::commands_have_at_most_one_outcome;
 pub use status::Status;
 pub use tool::{mapt, mapt_plain};
