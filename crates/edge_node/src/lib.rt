@@ -16,6 +16,3 @@ pub use equal::equal_values_are_the_same;
 pub use hop::emit;
 pub use packet_faults::{Causes, Hop, Out, Outs};
 pub use way::{EdgeParams, Way};
-
-#[cfg(test)]
-mod tests;

@@ -13,6 +13,3 @@ pub use asked::{frag_of, stripe_of};
 pub use equal::equal_values_are_the_same;
 pub use hop::relay_hop;
 pub use params::RelayParams;
-
-#[cfg(test)]
-mod tests;

@@ -3,22 +3,16 @@
 ghost use Rattle.std.specs.Prelude.{IsTrue, ◌<◌};
 ghost use Rattle.edge_node.specs.Hop.{IsAnswerAt};
 
-use super::{EDGE, FAR, To, dropped, emitted};
-use crate::{EdgeParams, Out, Way};
-use Text::{Long, Plain};
+use super::Text::{self, Long, Plain};
+use super::edge::{EDGE, FAR, dropped, emitted};
+use super::{EVEN, LOW, NARROW, WIDE, drops_alone, is_hop, parcels, written};
+use edge_node::{EdgeParams, Way};
 use nat_model::Answer;
-use octets::{Addr4, Bytes, Cause, Fault, Mtus, NoMemory, Parcel, Parcels};
+use octets::{Addr4, Cause, Fault, Mtus, NoMemory, Parcels};
 use packet_faults::Hop;
 use std::alloc::Global;
 use std::test::Fail;
-
-/// Octets as hexadecimal text: all of them; or the first ones, and behind them so many that count upwards from a number,
-/// modulo 251.
-#[derive(Clone, Copy, Debug)]
-enum Text {
-    Plain(&'static str),
-    Long(&'static str, u16, u16),
-}
+use transit::Exit;
 
 /// What the machine told of a packet, but for what it freed.
 #[derive(Clone, Copy, Debug)]
@@ -50,27 +44,6 @@ const ROUTER4: Addr4 = Addr4(0xc633_6409);
 
 const RELAY4: Addr4 = Addr4(0xc633_6401);
 
-/// The greatest packets of the home's two sides, and those of other homes.
-const HOME: Mtus = Mtus {
-    mtu4: 1500,
-    mtu6: 1500,
-};
-
-const NARROW: Mtus = Mtus {
-    mtu4: 1400,
-    mtu6: 1280,
-};
-
-const WIDE: Mtus = Mtus {
-    mtu4: 2000,
-    mtu6: 9000,
-};
-
-const LOW: Mtus = Mtus {
-    mtu4: 1280,
-    mtu6: 1500,
-};
-
 /// A hop: where its packet comes from, the packet, what is told of it, what it frees; what is sent, and what is dropped.
 #[derive(Clone, Copy, Debug)]
 struct Row {
@@ -80,7 +53,7 @@ struct Row {
     told: Told,
     freed: &'static [Text],
     mtus: Mtus,
-    sent: &'static [(To, Text)],
+    sent: &'static [(Exit, Text)],
     dropped: &'static [Cause],
 }
 
@@ -91,7 +64,7 @@ const FROM_LAN: Row = Row {
     packet: Plain(""),
     told: Told::Out,
     freed: &[],
-    mtus: HOME,
+    mtus: EVEN,
     sent: &[],
     dropped: &[],
 };
@@ -118,7 +91,7 @@ const WHOLE: [Row; 6] = [
         name: "a sum that comes to 0 is written as ffff",
         packet: Plain("4500001e0001000040118ee1c0a8010ac633640713880035000a924f6de0"),
         sent: &[(
-            To::Access,
+            Exit::ToAccess,
             Plain(
                 "60000000000a113f20010db8001234000000c0000212003420010db8ffff000000c633640700000004d00035000affff6de0",
             ),
@@ -129,7 +102,7 @@ const WHOLE: [Row; 6] = [
         name: "a sum that is missing is made",
         packet: Plain("4500001e0001000040118ee1c0a8010ac633640713880035000a00006869"),
         sent: &[(
-            To::Access,
+            Exit::ToAccess,
             Plain(
                 "60000000000a113f20010db8001234000000c0000212003420010db8ffff000000c633640700000004d00035000a05776869",
             ),
@@ -142,7 +115,7 @@ const WHOLE: [Row; 6] = [
             "4500002b0001000040068edfc0a8010ac63364071388005000000000000000005002ffff14d50000474554",
         ),
         sent: &[(
-            To::Access,
+            Exit::ToAccess,
             Plain(
                 "600000000017063f20010db8001234000000c0000212003420010db8ffff000000c633640700000004d0005000000000000000005002ffff82850000474554",
             ),
@@ -155,7 +128,7 @@ const WHOLE: [Row; 6] = [
             "600000000016063f20010db8ffff000000c633640700000020010db8001234000000c00002120034005004d000000000000000005012ffffce7000004f4b",
         ),
         sent: &[(
-            To::Lan,
+            Exit::ToLan,
             Plain(
                 "4500002a000700003e0690dac6336407c0a8010a0050138800000000000000005012ffff60c000004f4b",
             ),
@@ -166,7 +139,7 @@ const WHOLE: [Row; 6] = [
         name: "options, the reserved flag and what stands behind the packet are dropped; the type of service stays",
         packet: Plain("46b800220001800040117920c0a8010ac63364079404000013880035000a97c66869eeeeee"),
         sent: &[(
-            To::Access,
+            Exit::ToAccess,
             Plain(
                 "6b800000000a113f20010db8001234000000c0000212003420010db8ffff000000c633640700000004d00035000a05776869",
             ),
@@ -180,7 +153,7 @@ const WHOLE: [Row; 6] = [
         ),
         told: Told::In(HOST, 0, FAR4, FAR4),
         sent: &[(
-            To::Lan,
+            Exit::ToLan,
             Plain("4500001c000700003e0190edc6336407c0a8010a0000ffff00000000"),
         )],
         ..FROM_ACCESS
@@ -198,7 +171,7 @@ const LONG_OUT: [Row; 4] = [
         ),
         sent: &[
             (
-                To::Access,
+                Exit::ToAccess,
                 Long(
                     "6000000005b02c3f20010db8001234000000c0000212003420010db8ffff000000c6336407000000110000010000000104d0003505b51c23",
                     0,
@@ -206,7 +179,7 @@ const LONG_OUT: [Row; 4] = [
                 ),
             ),
             (
-                To::Access,
+                Exit::ToAccess,
                 Plain(
                     "6000000000152c3f20010db8001234000000c0000212003420010db8ffff000000c6336407000000110005a800000001b9babbbcbdbebfc0c1c2c3c4c5",
                 ),
@@ -222,7 +195,7 @@ const LONG_OUT: [Row; 4] = [
             1453,
         ),
         sent: &[(
-            To::Lan,
+            Exit::ToLan,
             Long(
                 "45000240000700004001f55ac0a80101c0a8010a0304dcf3000005c8450005c90001400040114936c0a8010ac63364071388003505b5ae72",
                 0,
@@ -240,7 +213,7 @@ const LONG_OUT: [Row; 4] = [
             1452,
         ),
         sent: &[(
-            To::Access,
+            Exit::ToAccess,
             Long(
                 "6000000005b4113f20010db8001234000000c0000212003420010db8ffff000000c633640700000004d0003505b4e125",
                 0,
@@ -257,7 +230,7 @@ const LONG_OUT: [Row; 4] = [
             1453,
         ),
         sent: &[(
-            To::Lan,
+            Exit::ToLan,
             Long(
                 "45000240000700004001f55ac0a80101c0a8010a0304eb3f000005c8450005c90001000040018946c0a8010ac63364070800b14a004d0001",
                 0,
@@ -280,7 +253,7 @@ const CUT: [Row; 3] = [
         ),
         sent: &[
             (
-                To::Access,
+                Exit::ToAccess,
                 Long(
                     "6000000005b02c3f20010db8001234000000c0000212003420010db8ffff000000c6336407000000110000010000123404d0003509ccf5fc",
                     0,
@@ -288,7 +261,7 @@ const CUT: [Row; 3] = [
                 ),
             ),
             (
-                To::Access,
+                Exit::ToAccess,
                 Long(
                     "6000000000282c3f20010db8001234000000c0000212003420010db8ffff000000c6336407000000110005a900001234",
                     185,
@@ -304,7 +277,7 @@ const CUT: [Row; 3] = [
         mtus: NARROW,
         sent: &[
             (
-                To::Access,
+                Exit::ToAccess,
                 Long(
                     "6000000004d82c3f20010db8001234000000c0000212003420010db8ffff000000c6336407000000110005c900001234",
                     0,
@@ -312,7 +285,7 @@ const CUT: [Row; 3] = [
                 ),
             ),
             (
-                To::Access,
+                Exit::ToAccess,
                 Long(
                     "6000000000f62c3f20010db8001234000000c0000212003420010db8ffff000000c633640700000011000a9800001234",
                     228,
@@ -332,7 +305,7 @@ const CUT: [Row; 3] = [
         mtus: NARROW,
         sent: &[
             (
-                To::Access,
+                Exit::ToAccess,
                 Long(
                     "6000000004d82c3f20010db8001234000000c0000212003420010db8ffff000000c6336407000000110000010000000104d0003509b05eab",
                     0,
@@ -340,7 +313,7 @@ const CUT: [Row; 3] = [
                 ),
             ),
             (
-                To::Access,
+                Exit::ToAccess,
                 Long(
                     "6000000004d82c3f20010db8001234000000c0000212003420010db8ffff000000c6336407000000110004d100000001",
                     220,
@@ -348,7 +321,7 @@ const CUT: [Row; 3] = [
                 ),
             ),
             (
-                To::Access,
+                Exit::ToAccess,
                 Plain(
                     "6000000000182c3f20010db8001234000000c0000212003420010db8ffff000000c6336407000000110009a000000001c5c6c7c8c9cacbcccdcecfd0d1d2d3d4",
                 ),
@@ -368,7 +341,7 @@ const LONG_IN: [Row; 5] = [
             1233,
         ),
         sent: &[(
-            To::Lan,
+            Exit::ToLan,
             Long(
                 "450004ed000740003e114c0cc6336407c0a8010a0035138804d97986",
                 0,
@@ -385,7 +358,7 @@ const LONG_IN: [Row; 5] = [
             1232,
         ),
         sent: &[(
-            To::Lan,
+            Exit::ToLan,
             Long(
                 "450004ec000700003e118c0dc6336407c0a8010a0035138804d85d89",
                 0,
@@ -403,7 +376,7 @@ const LONG_IN: [Row; 5] = [
         ),
         mtus: NARROW,
         sent: &[(
-            To::Access,
+            Exit::ToAccess,
             Long(
                 "6000000004d83a4020010db8001234000000c0000212003420010db8ffff000000c63364070000000200f52c0000058c600000000565113f20010db8ffff000000c633640700000020010db8001234000000c00002120034003504d00565e563",
                 0,
@@ -422,7 +395,7 @@ const LONG_IN: [Row; 5] = [
         ),
         mtus: NARROW,
         sent: &[(
-            To::Lan,
+            Exit::ToLan,
             Long(
                 "45000578000740003e114b81c6336407c0a8010a003513880564ecb5",
                 0,
@@ -450,7 +423,7 @@ const FRAGMENTS_OUT: [Row; 5] = [
         name: "a first fragment is noted",
         packet: Plain("450000241235200040115ca7c0a8010ac633640713880035003082520001020304050607"),
         sent: &[(
-            To::Access,
+            Exit::ToAccess,
             Plain(
                 "6000000000182c3f20010db8001234000000c0000212003420010db8ffff000000c6336407000000110000010000123504d000350030f0020001020304050607",
             ),
@@ -461,7 +434,7 @@ const FRAGMENTS_OUT: [Row; 5] = [
         name: "a later fragment is known by its first one",
         packet: Plain("450000241235200240115ca5c0a8010ac633640708090a0b0c0d0e0f1011121314151617"),
         sent: &[(
-            To::Access,
+            Exit::ToAccess,
             Plain(
                 "6000000000182c3f20010db8001234000000c0000212003420010db8ffff000000c6336407000000110000110000123508090a0b0c0d0e0f1011121314151617",
             ),
@@ -483,19 +456,19 @@ const FRAGMENTS_OUT: [Row; 5] = [
         ],
         sent: &[
             (
-                To::Access,
+                Exit::ToAccess,
                 Plain(
                     "6000000000182c3f20010db8001234000000c0000212003420010db8ffff000000c6336407000000110000010000123504d000350030f0020001020304050607",
                 ),
             ),
             (
-                To::Access,
+                Exit::ToAccess,
                 Plain(
                     "6000000000182c3f20010db8001234000000c0000212003420010db8ffff000000c6336407000000110000200000123518191a1b1c1d1e1f2021222324252627",
                 ),
             ),
             (
-                To::Access,
+                Exit::ToAccess,
                 Plain(
                     "6000000000182c3f20010db8001234000000c0000212003420010db8ffff000000c6336407000000110000110000123508090a0b0c0d0e0f1011121314151617",
                 ),
@@ -526,13 +499,13 @@ const FREED_OUT: [Row; 3] = [
         ],
         sent: &[
             (
-                To::Access,
+                Exit::ToAccess,
                 Plain(
                     "6000000000182c3f20010db8001234000000c0000212003420010db8ffff000000c6336407000000110000010000123504d000350030f0020001020304050607",
                 ),
             ),
             (
-                To::Access,
+                Exit::ToAccess,
                 Plain(
                     "6000000000182c3f20010db8001234000000c0000212003420010db8ffff000000c6336407000000110000110000123508090a0b0c0d0e0f1011121314151617",
                 ),
@@ -548,7 +521,7 @@ const FREED_OUT: [Row; 3] = [
             Plain("45000024123500040111bba3c0a8010ac633640718191a1b1c1d1e1f2021222324252627"),
         ],
         sent: &[(
-            To::Lan,
+            Exit::ToLan,
             Plain(
                 "45000040000700004001f75ac0a80101c0a8010a0b0052b000000000450000241235200001119ba7c0a8010ac633640713880035003082520001020304050607",
             ),
@@ -562,13 +535,13 @@ const FREED_OUT: [Row; 3] = [
         freed: &[Long("450005d212350004401176f5c0a8010ac6336407", 0, 1470)],
         sent: &[
             (
-                To::Access,
+                Exit::ToAccess,
                 Plain(
                     "6000000000182c3f20010db8001234000000c0000212003420010db8ffff000000c6336407000000110000010000123504d000350030f0020001020304050607",
                 ),
             ),
             (
-                To::Access,
+                Exit::ToAccess,
                 Long(
                     "6000000005b02c3f20010db8001234000000c0000212003420010db8ffff000000c63364070000001100002100001235",
                     0,
@@ -576,7 +549,7 @@ const FREED_OUT: [Row; 3] = [
                 ),
             ),
             (
-                To::Access,
+                Exit::ToAccess,
                 Plain(
                     "60000000001e2c3f20010db8001234000000c0000212003420010db8ffff000000c6336407000000110005c800001235c1c2c3c4c5c6c7c8c9cacbcccdcecfd0d1d2d3d4d5d6",
                 ),
@@ -603,15 +576,15 @@ const FRAGMENTS_IN: [Row; 4] = [
         ],
         sent: &[
             (
-                To::Lan,
+                Exit::ToLan,
                 Plain("45000024123620003e115ea6c6336407c0a8010a00351388003082520001020304050607"),
             ),
             (
-                To::Lan,
+                Exit::ToLan,
                 Plain("45000024123600043e117ea2c6336407c0a8010a18191a1b1c1d1e1f2021222324252627"),
             ),
             (
-                To::Lan,
+                Exit::ToLan,
                 Plain("45000024123620023e115ea4c6336407c0a8010a08090a0b0c0d0e0f1011121314151617"),
             ),
         ],
@@ -623,7 +596,7 @@ const FRAGMENTS_IN: [Row; 4] = [
             "6000000000182c3f20010db8ffff000000c633640700000020010db8001234000000c0000212003411000020abcd123618191a1b1c1d1e1f2021222324252627",
         ),
         sent: &[(
-            To::Lan,
+            Exit::ToLan,
             Plain("45000024123600043e117ea2c6336407c0a8010a18191a1b1c1d1e1f2021222324252627"),
         )],
         ..FROM_ACCESS
@@ -642,7 +615,7 @@ const FRAGMENTS_IN: [Row; 4] = [
             "6000000000122c3f20010db8ffff000000c633640700000020010db8001234000000c0000212003411000000abcd1237003504d0000a05776869",
         ),
         sent: &[(
-            To::Lan,
+            Exit::ToLan,
             Plain("4500001e123700003e117eabc6336407c0a8010a00351388000a97c66869"),
         )],
         ..FROM_ACCESS
@@ -687,11 +660,11 @@ const FREED_IN: [Row; 2] = [
         ],
         sent: &[
             (
-                To::Lan,
+                Exit::ToLan,
                 Plain("45000024123620003e115ea6c6336407c0a8010a00351388003082520001020304050607"),
             ),
             (
-                To::Lan,
+                Exit::ToLan,
                 Plain("45000024123620023e115ea4c6336407c0a8010a08090a0b0c0d0e0f1011121314151617"),
             ),
         ],
@@ -705,7 +678,7 @@ const SPENT: [Row; 6] = [
         name: "a TTL of 0 is spent",
         packet: Plain("4500001e000100000011cee1c0a8010ac633640713880035000a97c66869"),
         sent: &[(
-            To::Lan,
+            Exit::ToLan,
             Plain(
                 "4500003a000700004001f760c0a80101c0a8010a0b00e108000000004500001e000100000011cee1c0a8010ac633640713880035000a97c66869",
             ),
@@ -718,7 +691,7 @@ const SPENT: [Row; 6] = [
         packet: Plain("4500001e0001000001113609c0a8010bc0000212138808d1000af7516869"),
         told: Told::Turn(1232),
         sent: &[(
-            To::Lan,
+            Exit::ToLan,
             Plain(
                 "4500003a000700004001f75fc0a80101c0a8010b0b0078e1000000004500001e0001000001113609c0a8010bc0000212138808d1000af7516869",
             ),
@@ -740,7 +713,7 @@ const SPENT: [Row; 6] = [
             "60000000000a110020010db8ffff000000c633640700000020010db8001234000000c00002120034003504d0000a05776869",
         ),
         sent: &[(
-            To::Access,
+            Exit::ToAccess,
             Plain(
                 "60000000003a3a4020010db8001234000000c0000212003420010db8ffff000000c63364070000000300fea60000000060000000000a110020010db8ffff000000c633640700000020010db8001234000000c00002120034003504d0000a05776869",
             ),
@@ -773,7 +746,7 @@ const ERRORS: [Row; 4] = [
         ),
         told: Told::In(HOST, 5000, RELAY4, FAR4),
         sent: &[(
-            To::Lan,
+            Exit::ToLan,
             Plain(
                 "4500003a000700003f018fd5c6336401c0a8010a0b00e108000000004500001e000000000111cde2c0a8010ac633640713880035000a97c66869",
             ),
@@ -786,7 +759,7 @@ const ERRORS: [Row; 4] = [
             "60000000003a3a3f20010db8ffff000000c633640700000020010db8001234000000c00002120034010400650000000060000000000a113e20010db8001234000000c0000212003420010db8ffff000000c633640700000004d00035000a05776869",
         ),
         sent: &[(
-            To::Lan,
+            Exit::ToLan,
             Plain(
                 "4500003a000700003e0190cfc6336407c0a8010a0303e905000000004500001e000000003e1190e2c0a8010ac633640713880035000a97c66869",
             ),
@@ -800,7 +773,7 @@ const ERRORS: [Row; 4] = [
         ),
         told: Told::In(HOST, 5000, ROUTER4, FAR4),
         sent: &[(
-            To::Lan,
+            Exit::ToLan,
             Plain(
                 "45000038000700003e0190cfc6336409c0a8010a0304d9d2000005c8450005dc000040003c114d24c0a8010ac63364071388003505c803dc",
             ),
@@ -813,7 +786,7 @@ const ERRORS: [Row; 4] = [
             "4500003a0001000040018eddc0a80102c63364070301e907000000004500001e000100003c1192e1c6336407c0a8010a00351388000a97c66869",
         ),
         sent: &[(
-            To::Access,
+            Exit::ToAccess,
             Plain(
                 "60000000003a3a3f20010db8001234000000c0000212003420010db8ffff000000c63364070000000100006b0000000060000000000a113c20010db8ffff000000c633640700000020010db8001234000000c00002120034003504d0000a05776869",
             ),
@@ -830,7 +803,7 @@ const POINTERS: [Row; 4] = [
             "4500003a0001000040018ed5c0a8010ac63364070c00d008100000004500001e0001000040118ee1c6336407c0a8010a00351388000a97c66869",
         ),
         sent: &[(
-            To::Access,
+            Exit::ToAccess,
             Plain(
                 "60000000003a3a3f20010db8001234000000c0000212003420010db8ffff000000c63364070000000400fd4e0000001860000000000a114020010db8ffff000000c633640700000020010db8001234000000c00002120034003504d0000a05776869",
             ),
@@ -843,7 +816,7 @@ const POINTERS: [Row; 4] = [
             "60000000003a3a3f20010db8ffff000000c633640700000020010db8001234000000c000021200340400fd600000000760000000000a113f20010db8001234000000c0000212003420010db8ffff000000c633640700000004d00035000a05776869",
         ),
         sent: &[(
-            To::Lan,
+            Exit::ToLan,
             Plain(
                 "4500003a000700003e0190cfc6336407c0a8010a0c00d808080000004500001e000000003f118fe2c0a8010ac633640713880035000a97c66869",
             ),
@@ -856,7 +829,7 @@ const POINTERS: [Row; 4] = [
             "450000380001000040018ed7c0a8010ac63364070302e92500000000450000280001000040068ee2c6336407c0a8010a0050138800000000",
         ),
         sent: &[(
-            To::Access,
+            Exit::ToAccess,
             Plain(
                 "6000000000383a3f20010db8001234000000c0000212003420010db8ffff000000c63364070000000401762700000006600000000014064020010db8ffff000000c633640700000020010db8001234000000c00002120034005004d000000000",
             ),
@@ -869,7 +842,7 @@ const POINTERS: [Row; 4] = [
             "450000440001000040018ecbc0a8010ac63364070b00dffb000800004500001e0001000040118ee1c6336407c0a8010a00351388000a97c6686900002000dfff00040101",
         ),
         sent: &[(
-            To::Access,
+            Exit::ToAccess,
             Plain(
                 "60000000003a3a3f20010db8001234000000c0000212003420010db8ffff000000c63364070000000300fe660000000060000000000a114020010db8ffff000000c633640700000020010db8001234000000c00002120034003504d0000a05776869",
             ),
@@ -886,7 +859,7 @@ const MTUS: [Row; 6] = [
             "60000000003a3a3f20010db8ffff000000c633640700000020010db8001234000000c000021200340200fd0f0000025860000000000a113f20010db8001234000000c0000212003420010db8ffff000000c633640700000004d00035000a05776869",
         ),
         sent: &[(
-            To::Lan,
+            Exit::ToLan,
             Plain(
                 "4500003a000700003e0190cfc6336407c0a8010a0304e418000004ec4500001e000000003f118fe2c0a8010ac633640713880035000a97c66869",
             ),
@@ -900,7 +873,7 @@ const MTUS: [Row; 6] = [
         ),
         mtus: NARROW,
         sent: &[(
-            To::Lan,
+            Exit::ToLan,
             Plain(
                 "4500003a000700003e0190cfc6336407c0a8010a0304e418000004ec4500001e000000003f118fe2c0a8010ac633640713880035000a97c66869",
             ),
@@ -914,7 +887,7 @@ const MTUS: [Row; 6] = [
         ),
         mtus: WIDE,
         sent: &[(
-            To::Access,
+            Exit::ToAccess,
             Plain(
                 "6000000000383a3f20010db8001234000000c0000212003420010db8ffff000000c63364070000000200dc00000005e86000000005c8114020010db8ffff000000c633640700000020010db8001234000000c00002120034003504d005c87fe4",
             ),
@@ -928,7 +901,7 @@ const MTUS: [Row; 6] = [
         ),
         mtus: WIDE,
         sent: &[(
-            To::Access,
+            Exit::ToAccess,
             Plain(
                 "6000000000383a3f20010db8001234000000c0000212003420010db8ffff000000c63364070000000200d814000005e86000000007be114020010db8ffff000000c633640700000020010db8001234000000c00002120034003504d007be7fe4",
             ),
@@ -942,7 +915,7 @@ const MTUS: [Row; 6] = [
         ),
         mtus: WIDE,
         sent: &[(
-            To::Access,
+            Exit::ToAccess,
             Plain(
                 "6000000000383a3f20010db8001234000000c0000212003420010db8ffff000000c63364070000000200dce4000005146000000005c0114020010db8ffff000000c633640700000020010db8001234000000c00002120034003504d005c07fe4",
             ),
@@ -955,7 +928,7 @@ const MTUS: [Row; 6] = [
             "4500003a0001000040018ed5c0a8010ac63364070304e332000005d24500001e0001000040118ee1c6336407c0a8010a00351388000a97c66869",
         ),
         sent: &[(
-            To::Access,
+            Exit::ToAccess,
             Plain(
                 "60000000003a3a3f20010db8001234000000c0000212003420010db8ffff000000c63364070000000200f98a000005dc60000000000a114020010db8ffff000000c633640700000020010db8001234000000c00002120034003504d0000a05776869",
             ),
@@ -972,7 +945,7 @@ const EMBEDDED: [Row; 4] = [
             "4500003c0001000040018ed3c0a8010ac63364070301fcfe00000000450000200001000040018eefc6336407c0a8010a080005a41388000370696e67",
         ),
         sent: &[(
-            To::Access,
+            Exit::ToAccess,
             Plain(
                 "60000000003c3a3f20010db8001234000000c0000212003420010db8ffff000000c63364070000000100d78d0000000060000000000c3a4020010db8ffff000000c633640700000020010db8001234000000c0000212003480000f2004d0000370696e67",
             ),
@@ -986,7 +959,7 @@ const EMBEDDED: [Row; 4] = [
         ),
         told: Told::In(HOST, 0, FAR4, FAR4),
         sent: &[(
-            To::Lan,
+            Exit::ToLan,
             Plain(
                 "4500003c000700003e0190cdc6336407c0a8010a0301fcfe0000000045000020000000003f018ff0c0a8010ac63364070800192c0000000370696e67",
             ),
@@ -999,7 +972,7 @@ const EMBEDDED: [Row; 4] = [
             "60000000003a3a3f20010db8ffff000000c633640700000020010db8001234000000c00002120034010405db0000000060000000000a113f20010db8001234000000c0000212003420010db8ffff000000c633640700000004d00035000a00006869",
         ),
         sent: &[(
-            To::Lan,
+            Exit::ToLan,
             Plain(
                 "4500003a000700003e0190cfc6336407c0a8010a030380cc000000004500001e000000003f118fe2c0a8010ac633640713880035000a00006869",
             ),
@@ -1012,7 +985,7 @@ const EMBEDDED: [Row; 4] = [
             "4500003a0001000040018ed5c0a8010ac63364070303ee7c000000004500001e0001000040118ee1c6336407c0a8010a00351388000a924f6869",
         ),
         sent: &[(
-            To::Access,
+            Exit::ToAccess,
             Plain(
                 "60000000003a3a3f20010db8001234000000c0000212003420010db8ffff000000c6336407000000010405da0000000060000000000a114020010db8ffff000000c633640700000020010db8001234000000c00002120034003504d0000affff6869",
             ),
@@ -1031,7 +1004,7 @@ const EMBEDDED_LENGTHS: [Row; 4] = [
             1300,
         ),
         sent: &[(
-            To::Access,
+            Exit::ToAccess,
             Long(
                 "6000000004d83a3f20010db8001234000000c0000212003420010db8ffff000000c633640700000001043b440000000060000000051c114020010db8ffff000000c633640700000020010db8001234000000c00002120034003504d0051ca665",
                 0,
@@ -1046,7 +1019,7 @@ const EMBEDDED_LENGTHS: [Row; 4] = [
             "450000400001000040018ecfc0a8010ac63364070b0152af00000000450000242222200040114cbac6336407c0a8010a00351388003082520001020304050607",
         ),
         sent: &[(
-            To::Access,
+            Exit::ToAccess,
             Plain(
                 "6000000000483a3f20010db8001234000000c0000212003420010db8ffff000000c6336407000000030121ce000000006000000000182c4020010db8ffff000000c633640700000020010db8001234000000c000021200341100000100002222003504d00030f0020001020304050607",
             ),
@@ -1059,7 +1032,7 @@ const EMBEDDED_LENGTHS: [Row; 4] = [
             "60000000003c3a3f20010db8ffff000000c633640700000020010db8001234000000c00002120034010455a60000000060000000000a113f20010db8001234000000c0000212003420010db8ffff000000c633640700000004d00035000a05776869aabb",
         ),
         sent: &[(
-            To::Lan,
+            Exit::ToLan,
             Plain(
                 "4500003a000700003e0190cfc6336407c0a8010a0303e905000000004500001e000000003f118fe2c0a8010ac633640713880035000a97c66869",
             ),
@@ -1072,7 +1045,7 @@ const EMBEDDED_LENGTHS: [Row; 4] = [
             "6000000000443a3f20010db8ffff000000c633640700000020010db8001234000000c0000212003401030e2e00000000600000000580113f20010db8001234000000c0000212003420010db8ffff000000c633640700000004d00035058036fd000102030405060708090a0b",
         ),
         sent: &[(
-            To::Lan,
+            Exit::ToLan,
             Plain(
                 "45000044000700003e0190c5c6336407c0a8010a0301fc500000000045000594000040003f114a6cc0a8010ac6336407138800350580c94c000102030405060708090a0b",
             ),
@@ -1088,7 +1061,7 @@ const TURNED: [Row; 5] = [
         packet: Plain("460000220001c00040113403c0a8010bc000021201010100138808d1000a00006869ee"),
         told: Told::Turn(1232),
         sent: &[(
-            To::Itself,
+            Exit::ToItself,
             Plain("4500001e000140003f11b7a9c0000212c000021204d008d1000a00006869"),
         )],
         ..FROM_LAN
@@ -1097,7 +1070,7 @@ const TURNED: [Row; 5] = [
         name: "and received without one",
         packet: Plain("4500001e00010000011135aac0000212c000021204d008d1000a00006869"),
         sent: &[(
-            To::Lan,
+            Exit::ToLan,
             Plain("4500001e000100000111360ac0000212c0a8010a04d01388000a00006869"),
         )],
         ..FROM_ITSELF
@@ -1107,7 +1080,7 @@ const TURNED: [Row; 5] = [
         packet: Plain("45000020000100004001f716c0a8010bc0000212080019250009000170696e67"),
         told: Told::Turn(2257),
         sent: &[(
-            To::Itself,
+            Exit::ToItself,
             Plain("45000020000100003f01f7b7c0000212c00002120800105d08d1000170696e67"),
         )],
         ..FROM_LAN
@@ -1117,7 +1090,7 @@ const TURNED: [Row; 5] = [
         packet: Plain("4500002000010000000136b8c0000212c00002120800105d08d1000170696e67"),
         told: Told::In(HOST, 2257, HOME4, HOME4),
         sent: &[(
-            To::Lan,
+            Exit::ToLan,
             Plain("450000200001000000013718c0000212c0a8010a0800105d08d1000170696e67"),
         )],
         ..FROM_ITSELF
@@ -1132,7 +1105,7 @@ const TURNED: [Row; 5] = [
         told: Told::Turn(1232),
         mtus: NARROW,
         sent: &[(
-            To::Itself,
+            Exit::ToItself,
             Long(
                 "450005f8000140003f11b1cfc0000212c000021204d008d105e42c2d",
                 0,
@@ -1155,15 +1128,15 @@ const TURNED_FRAGMENTS: [Row; 3] = [
         ],
         sent: &[
             (
-                To::Itself,
+                Exit::ToItself,
                 Plain("45000024333320003f11a471c0000212c000021204d008d10030f0360001020304050607"),
             ),
             (
-                To::Itself,
+                Exit::ToItself,
                 Plain("45000024333320023f11a46fc0000212c000021208090a0b0c0d0e0f1011121314151617"),
             ),
             (
-                To::Itself,
+                Exit::ToItself,
                 Plain("45000024333300043f11c46dc0000212c000021218191a1b1c1d1e1f2021222324252627"),
             ),
         ],
@@ -1179,15 +1152,15 @@ const TURNED_FRAGMENTS: [Row; 3] = [
         ],
         sent: &[
             (
-                To::Lan,
+                Exit::ToLan,
                 Plain("45000024333320004011a3d1c0000212c0a8010a04d013880030e5df0001020304050607"),
             ),
             (
-                To::Lan,
+                Exit::ToLan,
                 Plain("45000024333320024011a3cfc0000212c0a8010a08090a0b0c0d0e0f1011121314151617"),
             ),
             (
-                To::Lan,
+                Exit::ToLan,
                 Plain("45000024333300044011c3cdc0000212c0a8010a18191a1b1c1d1e1f2021222324252627"),
             ),
         ],
@@ -1210,7 +1183,7 @@ const TURNED_ERRORS: [Row; 2] = [
         ),
         told: Told::Turn(2257),
         sent: &[(
-            To::Itself,
+            Exit::ToItself,
             Plain(
                 "45000044000100003f01f793c0000212c000021203038030000800004500001e0001000009112daac0000212c000021204d008d1000a05ab686900002000dfff00040101",
             ),
@@ -1224,7 +1197,7 @@ const TURNED_ERRORS: [Row; 2] = [
         ),
         told: Told::In(OTHER_HOST, 5000, HOME4, HOME4),
         sent: &[(
-            To::Lan,
+            Exit::ToLan,
             Plain(
                 "45000044000100003f01f7f2c0000212c0a8010b03037fd1000800004500001e0001000009112e09c0a8010bc0000212138808d1000af751686900002000dfff00040101",
             ),
@@ -1249,7 +1222,7 @@ const ROUTES: [Row; 4] = [
         packet: Plain("4700001c000100004001cac1c0a8010ac6336407830704c633640700"),
         told: Told::Nothing,
         sent: &[(
-            To::Lan,
+            Exit::ToLan,
             Plain(
                 "45000038000700004001f762c0a80101c0a8010a0305fcfa000000004700001c000100004001cac1c0a8010ac6336407830704c633640700",
             ),
@@ -1272,7 +1245,7 @@ const ROUTES: [Row; 4] = [
             "47000026000100004011c6a7c0a8010ac6336407830708c63364070013880035000a97c66869",
         ),
         sent: &[(
-            To::Access,
+            Exit::ToAccess,
             Plain(
                 "60000000000a113f20010db8001234000000c0000212003420010db8ffff000000c633640700000004d00035000a05776869",
             ),
@@ -1290,7 +1263,7 @@ const SEGMENTS: [Row; 4] = [
         ),
         told: Told::Nothing,
         sent: &[(
-            To::Access,
+            Exit::ToAccess,
             Plain(
                 "60000000004a3a4020010db8001234000000c0000212003420010db8ffff000000c63364070000000400950e0000003360000000001a3c3f20010db8ffff000000c633640700000020010db8001234000000c000021200342b000104000000001100000200000000003504d0000a05776869",
             ),
@@ -1304,7 +1277,7 @@ const SEGMENTS: [Row; 4] = [
             "6000000000122b3f20010db8ffff000000c633640700000020010db8001234000000c000021200341100000000000000003504d0000a05776869",
         ),
         sent: &[(
-            To::Lan,
+            Exit::ToLan,
             Plain("4500001e000700003e1190dbc6336407c0a8010a00351388000a97c66869"),
         )],
         ..FROM_ACCESS
@@ -1316,7 +1289,7 @@ const SEGMENTS: [Row; 4] = [
         ),
         told: Told::Nothing,
         sent: &[(
-            To::Access,
+            Exit::ToAccess,
             Plain(
                 "6000000000423a4020010db8001235000000c0000212003520010db8ffff000000c63364070000000400d1290000002b6000000000122b3f20010db8ffff000000c633640700000020010db8001235000000c000021200351100000200000000003504d4000a04726869",
             ),
@@ -1331,7 +1304,7 @@ const SEGMENTS: [Row; 4] = [
         ),
         told: Told::Nothing,
         sent: &[(
-            To::Access,
+            Exit::ToAccess,
             Plain(
                 "6000000000383a4020010db8001234000000c0000212003420010db8ffff000000c63364070000000400d22d0000002b6000000000082b3f20010db8ffff000000c633640700000020010db8001234000000c000021200348400000200000000",
             ),
@@ -1461,52 +1434,6 @@ const REFUSED: [Refusal; 14] = [
     ),
 ];
 
-/// The number of a hexadecimal digit.
-fn number_of(digit: u8) -> u8
-    ensures { result < 16 }
-{
-    match digit {
-        b'0'..=b'9' => digit - b'0',
-        b'a'..=b'f' => digit - b'a' + 10,
-        _ => 0,
-    }
-}
-
-/// The octets that are written as hexadecimal text.
-fn octets_of(alloc: Global, digits: &[u8]) -> Result<Bytes, NoMemory> {
-    let mut octets = Bytes::new(alloc);
-    for i in 0..digits.len() / 2 {
-        octets.push(number_of(digits[2 * i]) * 16 + number_of(digits[2 * i + 1]))?;
-    }
-    Ok(octets)
-}
-
-/// The octets that a text stands for.
-fn written(alloc: Global, text: Text) -> Result<Bytes, NoMemory> {
-    let (digits, from, count) = match text {
-        Plain(digits) => (digits, 0, 0),
-        Long(digits, from, count) => (digits, from, count),
-    };
-    let mut octets = octets_of(alloc, digits.as_bytes())?;
-    for i in 0..count {
-        let octet = (u32::from(from) + u32::from(i)) % 251;
-        octets.push(octet as u8)?;
-    }
-    Ok(octets)
-}
-
-/// The fragments that are freed.
-fn parcels(alloc: Global, freed: &[Text]) -> Result<Parcels, NoMemory> {
-    let mut parcels = Parcels::new(alloc);
-    for text in freed {
-        parcels.push(Parcel {
-            place: 0,
-            bytes: written(alloc, *text)?,
-        })?;
-    }
-    Ok(parcels)
-}
-
 /// The machine's answer.
 fn answer(told: Told, freed: Parcels) -> Answer {
     match told {
@@ -1579,38 +1506,12 @@ fn hop_of(alloc: Global, row: &Row) -> Result<Option<Hop>, NoMemory> {
     }
 }
 
-/// Whether this packet goes there.
-fn goes(alloc: Global, out: &Out, to: To, text: Text) -> Result<bool, NoMemory> {
-    let expected = written(alloc, text)?;
-    Ok(match out {
-        Out::Lan(octets) => to == To::Lan && octets.as_slice() == expected.as_slice(),
-        Out::Access(octets) => to == To::Access && octets.as_slice() == expected.as_slice(),
-        Out::Turn(octets) => to == To::Itself && octets.as_slice() == expected.as_slice(),
-        Out::Core(_) => false,
-    })
-}
-
-/// Whether these packets are sent, in this order.
-fn all_go(alloc: Global, outs: &[Out], sent: &[(To, Text)]) -> Result<bool, NoMemory> {
-    if outs.len() != sent.len() {
-        return Ok(false);
-    }
-    for i in 0..outs.len() {
-        let (to, text) = sent[i];
-        if !goes(alloc, &outs[i], to, text)? {
-            return Ok(false);
-        }
-    }
-    Ok(true)
-}
-
 /// Whether a row's hop is as it says.
 fn is_as_told(alloc: Global, row: &Row) -> Result<bool, NoMemory> {
     let Some(hop) = hop_of(alloc, row)? else {
         return Ok(false);
     };
-    let dropped = hop.drops.as_slice() == row.dropped;
-    Ok(dropped && all_go(alloc, hop.outs.as_slice(), row.sent)?)
+    is_hop(alloc, &hop, row.sent, row.dropped)
 }
 
 /// The name of the first of these rows whose hop isn't as it says.
@@ -1623,14 +1524,6 @@ fn first_wrong(alloc: Global, rows: &[Row]) -> Result<Option<&'static str>, NoMe
     Ok(None)
 }
 
-/// Whether the hop of a row sends nothing, and drops one packet for this cause.
-fn drops_alone(alloc: Global, row: &Row, cause: Cause) -> Result<bool, NoMemory> {
-    let Some(hop) = hop_of(alloc, row)? else {
-        return Ok(false);
-    };
-    Ok(hop.outs.as_slice().is_empty() && hop.drops.as_slice() == [cause].as_slice())
-}
-
 /// The name of the first of these packets that isn't dropped alone.
 fn first_kept(alloc: Global, rows: &[Refusal]) -> Result<Option<&'static str>, NoMemory> {
     for (name, way, packet, cause) in rows {
@@ -1641,7 +1534,11 @@ fn first_kept(alloc: Global, rows: &[Refusal]) -> Result<Option<&'static str>, N
             told: Told::Refused(*cause),
             ..FROM_LAN
         };
-        if !drops_alone(alloc, &row, *cause)? {
+        let kept = match hop_of(alloc, &row)? {
+            Some(hop) => !drops_alone(&hop, *cause),
+            None => true,
+        };
+        if kept {
             return Ok(Some(*name));
         }
     }

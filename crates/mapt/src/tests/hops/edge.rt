@@ -2,79 +2,72 @@
 
 ghost use Rattle.edge_node.specs.Hop.{IsAnswerAt};
 
-use super::*;
+use super::parts;
+use edge_node::{EdgeParams, Way, ask_of, emit};
 use nat_model::{Answer, Ask, Part};
 use octets::{Addr4, Addr6, Cause, Fault, Mtus, NoMemory, Parcels, Proto};
+use packet_faults::Hop;
 use std::alloc::Global;
 use std::test::Fail;
-
-mod hops;
+use transit::Exit;
 
 /// The home's MAP address, and a host of the core under the default mapping rule.
-const EDGE: Addr6 = Addr6(0x2001_0db8_0012_3400_0000_c000_0212_0034);
+pub(super) const EDGE: Addr6 = Addr6(0x2001_0db8_0012_3400_0000_c000_0212_0034);
 
-const FAR: Addr6 = Addr6(0x2001_0db8_ffff_0000_00c6_3364_0700_0000);
-
-/// Where a packet is sent.
-#[derive(Clone, Copy, Debug, PartialEq)]
-enum To {
-    Lan,
-    Access,
-    Itself,
-}
+pub(super) const FAR: Addr6 = Addr6(0x2001_0db8_ffff_0000_00c6_3364_0700_0000);
 
 /// Packets from the LAN that go out from port 1232.
-const OUT: [(&[u8], To, &[u8]); 4] = [
+const OUT: [(&[u8], Exit, &[u8]); 4] = [
     // a UDP packet
     (
         b"\x45\x00\x00\x1e\x00\x01\x00\x00\x40\x11\x8e\xe1\xc0\xa8\x01\x0a\xc6\x33\x64\x07\x13\x88\x00\x35\x00\x0a\x97\xc6\x68\x69",
-        To::Access,
+        Exit::ToAccess,
         b"\x60\x00\x00\x00\x00\x0a\x11\x3f\x20\x01\x0d\xb8\x00\x12\x34\x00\x00\x00\xc0\x00\x02\x12\x00\x34\x20\x01\x0d\xb8\xff\xff\x00\x00\x00\xc6\x33\x64\x07\x00\x00\x00\x04\xd0\x00\x35\x00\x0a\x05\x77\x68\x69",
     ),
     // an echo request
     (
         b"\x45\x00\x00\x1c\x00\x01\x00\x00\x40\x01\x8e\xf3\xc0\xa8\x01\x0a\xc6\x33\x64\x07\x08\x00\xf7\xff\x00\x00\x00\x00",
-        To::Access,
+        Exit::ToAccess,
         b"\x60\x00\x00\x00\x00\x08\x3a\x3f\x20\x01\x0d\xb8\x00\x12\x34\x00\x00\x00\xc0\x00\x02\x12\x00\x34\x20\x01\x0d\xb8\xff\xff\x00\x00\x00\xc6\x33\x64\x07\x00\x00\x00\x80\x00\xed\xf7\x04\xd0\x00\x00",
     ),
     // port unreachable, about a packet that came in
     (
         b"\x45\x00\x00\x3a\x00\x01\x00\x00\x40\x01\x8e\xd5\xc0\xa8\x01\x0a\xc6\x33\x64\x07\x03\x03\xe9\x05\x00\x00\x00\x00\x45\x00\x00\x1e\x00\x07\x00\x00\x3e\x11\x90\xdb\xc6\x33\x64\x07\xc0\xa8\x01\x0a\x00\x35\x13\x88\x00\x0a\x97\xc6\x68\x69",
-        To::Access,
+        Exit::ToAccess,
         b"\x60\x00\x00\x00\x00\x3a\x3a\x3f\x20\x01\x0d\xb8\x00\x12\x34\x00\x00\x00\xc0\x00\x02\x12\x00\x34\x20\x01\x0d\xb8\xff\xff\x00\x00\x00\xc6\x33\x64\x07\x00\x00\x00\x01\x04\x00\x65\x00\x00\x00\x00\x60\x00\x00\x00\x00\x0a\x11\x3e\x20\x01\x0d\xb8\xff\xff\x00\x00\x00\xc6\x33\x64\x07\x00\x00\x00\x20\x01\x0d\xb8\x00\x12\x34\x00\x00\x00\xc0\x00\x02\x12\x00\x34\x00\x35\x04\xd0\x00\x0a\x05\x77\x68\x69",
     ),
     // a TTL that is spent: time exceeded goes back
     (
         b"\x45\x00\x00\x1e\x00\x01\x00\x00\x01\x11\xcd\xe1\xc0\xa8\x01\x0a\xc6\x33\x64\x07\x13\x88\x00\x35\x00\x0a\x97\xc6\x68\x69",
-        To::Lan,
+        Exit::ToLan,
         b"\x45\x00\x00\x3a\x00\x07\x00\x00\x40\x01\xf7\x60\xc0\xa8\x01\x01\xc0\xa8\x01\x0a\x0b\x00\xe1\x08\x00\x00\x00\x00\x45\x00\x00\x1e\x00\x01\x00\x00\x01\x11\xcd\xe1\xc0\xa8\x01\x0a\xc6\x33\x64\x07\x13\x88\x00\x35\x00\x0a\x97\xc6\x68\x69",
     ),
 ];
 
 /// Packets from the access network that come in to port 5000 of 192.168.1.10.
-const IN: [(&[u8], To, &[u8]); 4] = [
+const IN: [(&[u8], Exit, &[u8]); 4] = [
     // a UDP packet
     (
         b"\x60\x00\x00\x00\x00\x0a\x11\x3f\x20\x01\x0d\xb8\xff\xff\x00\x00\x00\xc6\x33\x64\x07\x00\x00\x00\x20\x01\x0d\xb8\x00\x12\x34\x00\x00\x00\xc0\x00\x02\x12\x00\x34\x00\x35\x04\xd0\x00\x0a\x05\x77\x68\x69",
-        To::Lan,
+        Exit::ToLan,
         b"\x45\x00\x00\x1e\x00\x07\x00\x00\x3e\x11\x90\xdb\xc6\x33\x64\x07\xc0\xa8\x01\x0a\x00\x35\x13\x88\x00\x0a\x97\xc6\x68\x69",
     ),
     // an echo reply
     (
         b"\x60\x00\x00\x00\x00\x08\x3a\x3f\x20\x01\x0d\xb8\xff\xff\x00\x00\x00\xc6\x33\x64\x07\x00\x00\x00\x20\x01\x0d\xb8\x00\x12\x34\x00\x00\x00\xc0\x00\x02\x12\x00\x34\x81\x00\xec\xf7\x04\xd0\x00\x00",
-        To::Lan,
+        Exit::ToLan,
         b"\x45\x00\x00\x1c\x00\x07\x00\x00\x3e\x01\x90\xed\xc6\x33\x64\x07\xc0\xa8\x01\x0a\x00\x00\xec\x77\x13\x88\x00\x00",
     ),
     // port unreachable, about a packet that went out
     (
         b"\x60\x00\x00\x00\x00\x3a\x3a\x3f\x20\x01\x0d\xb8\xff\xff\x00\x00\x00\xc6\x33\x64\x07\x00\x00\x00\x20\x01\x0d\xb8\x00\x12\x34\x00\x00\x00\xc0\x00\x02\x12\x00\x34\x01\x04\x00\x66\x00\x00\x00\x00\x60\x00\x00\x00\x00\x0a\x11\x3d\x20\x01\x0d\xb8\x00\x12\x34\x00\x00\x00\xc0\x00\x02\x12\x00\x34\x20\x01\x0d\xb8\xff\xff\x00\x00\x00\xc6\x33\x64\x07\x00\x00\x00\x04\xd0\x00\x35\x00\x0a\x05\x77\x68\x69",
-        To::Lan,
+        Exit::ToLan,
         b"\x45\x00\x00\x3a\x00\x07\x00\x00\x3e\x01\x90\xcf\xc6\x33\x64\x07\xc0\xa8\x01\x0a\x03\x03\xe9\x05\x00\x00\x00\x00\x45\x00\x00\x1e\x00\x00\x00\x00\x3d\x11\x91\xe2\xc0\xa8\x01\x0a\xc6\x33\x64\x07\x13\x88\x00\x35\x00\x0a\x97\xc6\x68\x69",
     ),
     // a hop limit that is spent: time exceeded goes back
     (
         b"\x60\x00\x00\x00\x00\x0a\x11\x01\x20\x01\x0d\xb8\xff\xff\x00\x00\x00\xc6\x33\x64\x07\x00\x00\x00\x20\x01\x0d\xb8\x00\x12\x34\x00\x00\x00\xc0\x00\x02\x12\x00\x34\x00\x35\x04\xd0\x00\x0a\x05\x77\x68\x69",
-        To::Access,
+        Exit::ToAccess,
         b"\x60\x00\x00\x00\x00\x3a\x3a\x40\x20\x01\x0d\xb8\x00\x12\x34\x00\x00\x00\xc0\x00\x02\x12\x00\x34\x20\x01\x0d\xb8\xff\xff\x00\x00\x00\xc6\x33\x64\x07\x00\x00\x00\x03\x00\xfe\xa5\x00\x00\x00\x00\x60\x00\x00\x00\x00\x0a\x11\x01\x20\x01\x0d\xb8\xff\xff\x00\x00\x00\xc6\x33\x64\x07\x00\x00\x00\x20\x01\x0d\xb8\x00\x12\x34\x00\x00\x00\xc0\x00\x02\x12\x00\x34\x00\x35\x04\xd0\x00\x0a\x05\x77\x68\x69",
     ),
 ];
@@ -224,7 +217,7 @@ fn home() -> EdgeParams {
 }
 
 /// What an edge emits. Its packets without an identification of their own get 7.
-fn emitted(
+pub(super) fn emitted(
     alloc: Global,
     edge: &EdgeParams,
     way: Way,
@@ -240,7 +233,11 @@ fn emitted(
 }
 
 /// What it makes of a packet that it drops before it asks, and why it drops it.
-fn dropped(alloc: Global, way: Way, packet: &[u8]) -> Result<Option<(Cause, Hop)>, NoMemory> {
+pub(super) fn dropped(
+    alloc: Global,
+    way: Way,
+    packet: &[u8],
+) -> Result<Option<(Cause, Hop)>, NoMemory> {
     match ask_of(alloc, way, packet) {
         Ok(_) => Ok(None),
         Err(Fault::NoMemory) => Err(NoMemory),
@@ -256,7 +253,7 @@ fn dropped(alloc: Global, way: Way, packet: &[u8]) -> Result<Option<(Cause, Hop)
 }
 
 /// Whether the hop drops one packet for this cause, and sends the error of a source route, but none for another cause.
-fn drops(hop: &Hop, cause: Cause, to: To, routed: &[u8]) -> bool {
+fn drops(hop: &Hop, cause: Cause, to: Exit, routed: &[u8]) -> bool {
     let answered = match cause {
         Cause::SourceRoute => sends(hop, to, routed),
         _ => hop.outs.as_slice().is_empty(),
@@ -265,11 +262,12 @@ fn drops(hop: &Hop, cause: Cause, to: To, routed: &[u8]) -> bool {
 }
 
 /// Whether the hop sends this packet there, and no other.
-fn sends(hop: &Hop, to: To, expected: &[u8]) -> bool {
+fn sends(hop: &Hop, to: Exit, expected: &[u8]) -> bool {
     match hop.outs.as_slice() {
-        [Out::Lan(octets)] => to == To::Lan && octets.as_slice() == expected,
-        [Out::Access(octets)] => to == To::Access && octets.as_slice() == expected,
-        [Out::Turn(octets)] => to == To::Itself && octets.as_slice() == expected,
+        [out] => {
+            let (exit, octets) = parts(out);
+            exit == to && octets == expected
+        }
         _ => false,
     }
 }
@@ -317,7 +315,7 @@ fn packets_of_a_home_are_emitted(rt: HostRuntime) -> Result<(), Fail> {
     assert!(rt;
         sends(
             &emitted(alloc, &home(), Way::Lan, &turn, BEFORE)?,
-            To::Itself,
+            Exit::ToItself,
             TURNED
         )
     );
@@ -331,7 +329,7 @@ fn packets_of_a_home_are_emitted(rt: HostRuntime) -> Result<(), Fail> {
     assert!(rt;
         sends(
             &emitted(alloc, &home(), Way::Turned, &received, TURNED)?,
-            To::Lan,
+            Exit::ToLan,
             RECEIVED
         )
     );
@@ -376,7 +374,7 @@ fn each_cause_is_told(rt: HostRuntime) -> Result<(), Fail> {
     for (packet, cause) in DROPPED4 {
         match dropped(alloc, Way::Lan, packet)? {
             Some((told, hop)) => {
-                assert!(rt; told == cause && drops(&hop, cause, To::Lan, ROUTED4));
+                assert!(rt; told == cause && drops(&hop, cause, Exit::ToLan, ROUTED4));
             }
             None => assert!(rt; false),
         }
@@ -384,7 +382,7 @@ fn each_cause_is_told(rt: HostRuntime) -> Result<(), Fail> {
     for (packet, cause) in DROPPED6 {
         match dropped(alloc, Way::Access, packet)? {
             Some((told, hop)) => {
-                assert!(rt; told == cause && drops(&hop, cause, To::Access, ROUTED6));
+                assert!(rt; told == cause && drops(&hop, cause, Exit::ToAccess, ROUTED6));
             }
             None => assert!(rt; false),
         }

@@ -4,28 +4,18 @@ ghost use Rattle.std.specs.Prelude.{◌≡◌, ◌<◌, IsTrue, None};
 ghost use Rattle.std.specs.Option.{option_map};
 ghost use Rattle.relay_node.specs.Asked.{IsTold, MayBeTold};
 
-use super::parts;
-use crate::{RelayParams, frag_of, relay_hop};
-use Text::{Long, Plain};
+use super::Text::{self, Long, Plain};
+use super::{EVEN, LOW, NARROW, WIDE, drops_alone, is_hop, parcels, written};
 use frag_table::{FragAnswer, FragAsk};
 use l4_headers::Ports;
 use map_rules::{Dmr, Rule};
-use octets::{
-    Addr4, Addr6, Bytes, Cause, Fault, Mtus, NoMemory, Parcel, Parcels, Prefix4, Prefix6,
-};
-use packet_faults::{Hop, Out};
+use octets::{Addr4, Addr6, Cause, Fault, Mtus, NoMemory, Prefix4, Prefix6};
+use packet_faults::Hop;
+use relay_node::{RelayParams, frag_of, relay_hop};
 use rule_book::Book;
 use std::alloc::Global;
 use std::test::Fail;
 use transit::Exit;
-
-/// Octets as hexadecimal text: all of them; or the first ones, and behind them so many that count upwards from a number,
-/// modulo 251.
-#[derive(Clone, Copy, Debug)]
-enum Text {
-    Plain(&'static str),
-    Long(&'static str, u16, u16),
-}
 
 /// What the notes told of a packet.
 #[derive(Clone, Copy, Debug)]
@@ -44,27 +34,6 @@ enum Told {
 const FIRST: Addr4 = Addr4(0xc000_0200);
 
 const CHANGED: Addr4 = Addr4(0xcb00_7100);
-
-/// The greatest packets of the two sides.
-const EVEN: Mtus = Mtus {
-    mtu4: 1500,
-    mtu6: 1500,
-};
-
-const NARROW: Mtus = Mtus {
-    mtu4: 1400,
-    mtu6: 1280,
-};
-
-const WIDE: Mtus = Mtus {
-    mtu4: 2000,
-    mtu6: 9000,
-};
-
-const LOW: Mtus = Mtus {
-    mtu4: 1280,
-    mtu6: 1500,
-};
 
 /// A hop: where its packet comes from, the packet, what is told of it, and under which rules; what is sent, and what is
 /// dropped.
@@ -1438,52 +1407,6 @@ const DROPPED4: [Refusal; 20] = [
     ),
 ];
 
-/// The number of a hexadecimal digit.
-fn number_of(digit: u8) -> u8
-    ensures { result < 16 }
-{
-    match digit {
-        b'0'..=b'9' => digit - b'0',
-        b'a'..=b'f' => digit - b'a' + 10,
-        _ => 0,
-    }
-}
-
-/// The octets that are written as hexadecimal text.
-fn octets_of(alloc: Global, digits: &[u8]) -> Result<Bytes, NoMemory> {
-    let mut octets = Bytes::new(alloc);
-    for i in 0..digits.len() / 2 {
-        octets.push(number_of(digits[2 * i]) * 16 + number_of(digits[2 * i + 1]))?;
-    }
-    Ok(octets)
-}
-
-/// The octets that a text stands for.
-fn written(alloc: Global, text: Text) -> Result<Bytes, NoMemory> {
-    let (digits, from, count) = match text {
-        Plain(digits) => (digits, 0, 0),
-        Long(digits, from, count) => (digits, from, count),
-    };
-    let mut octets = octets_of(alloc, digits.as_bytes())?;
-    for i in 0..count {
-        let octet = (u32::from(from) + u32::from(i)) % 251;
-        octets.push(octet as u8)?;
-    }
-    Ok(octets)
-}
-
-/// The fragments that are released.
-fn parcels(alloc: Global, released: &[Text]) -> Result<Parcels, NoMemory> {
-    let mut parcels = Parcels::new(alloc);
-    for text in released {
-        parcels.push(Parcel {
-            place: 0,
-            bytes: written(alloc, *text)?,
-        })?;
-    }
-    Ok(parcels)
-}
-
 /// The notes' answer, where something is asked.
 fn answer(alloc: Global, told: Told) -> Result<Option<FragAnswer>, NoMemory> {
     Ok(match told {
@@ -1569,34 +1492,12 @@ fn hop_of(alloc: Global, row: &Row) -> Result<Option<Hop>, NoMemory> {
     Ok(Some(hop))
 }
 
-/// Whether this packet goes there.
-fn goes(alloc: Global, out: &Out, exit: Exit, text: Text) -> Result<bool, NoMemory> {
-    let (to, octets) = parts(out);
-    let expected = written(alloc, text)?;
-    Ok(to == exit && octets == expected.as_slice())
-}
-
-/// Whether these packets are sent, in this order.
-fn all_go(alloc: Global, outs: &[Out], sent: &[(Exit, Text)]) -> Result<bool, NoMemory> {
-    if outs.len() != sent.len() {
-        return Ok(false);
-    }
-    for i in 0..outs.len() {
-        let (exit, text) = sent[i];
-        if !goes(alloc, &outs[i], exit, text)? {
-            return Ok(false);
-        }
-    }
-    Ok(true)
-}
-
 /// Whether a row's hop is as it says.
 fn is_as_told(alloc: Global, row: &Row) -> Result<bool, NoMemory> {
     let Some(hop) = hop_of(alloc, row)? else {
         return Ok(false);
     };
-    let dropped = hop.drops.as_slice() == row.dropped;
-    Ok(dropped && all_go(alloc, hop.outs.as_slice(), row.sent)?)
+    is_hop(alloc, &hop, row.sent, row.dropped)
 }
 
 /// The name of the first of these rows whose hop isn't as it says.
@@ -1607,14 +1508,6 @@ fn first_wrong(alloc: Global, rows: &[Row]) -> Result<Option<&'static str>, NoMe
         }
     }
     Ok(None)
-}
-
-/// Whether the hop of a row sends nothing, and drops one packet for this cause.
-fn drops_alone(alloc: Global, row: &Row, cause: Cause) -> Result<bool, NoMemory> {
-    let Some(hop) = hop_of(alloc, row)? else {
-        return Ok(false);
-    };
-    Ok(hop.outs.as_slice().is_empty() && hop.drops.as_slice() == [cause].as_slice())
 }
 
 /// The name of the first of these packets that isn't dropped alone.
@@ -1630,7 +1523,11 @@ fn first_kept(
             packet: Plain(*packet),
             ..FROM_ACCESS
         };
-        if !drops_alone(alloc, &row, *cause)? {
+        let kept = match hop_of(alloc, &row)? {
+            Some(hop) => !drops_alone(&hop, *cause),
+            None => true,
+        };
+        if kept {
             return Ok(Some(*name));
         }
     }

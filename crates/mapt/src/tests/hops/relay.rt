@@ -3,17 +3,16 @@
 ghost use Rattle.std.specs.Prelude.{IsTrue, None};
 ghost use Rattle.relay_node.specs.Asked.{IsTold};
 
-use super::*;
+use super::parts;
 use frag_table::FragKey;
 use map_rules::{Dmr, Rule};
 use octets::{Addr4, Addr6, Cause, Mtus, Prefix4, Prefix6};
-use packet_faults::{Hop, Out};
+use packet_faults::Hop;
+use relay_node::{RelayParams, frag_of, relay_hop, stripe_of};
 use rule_book::Book;
 use std::alloc::Global;
 use std::test::Fail;
 use transit::Exit;
-
-mod hops;
 
 /// The relay's address is 198.51.100.1.
 const PARAMS: RelayParams = RelayParams {
@@ -50,16 +49,6 @@ fn whole(alloc: Global, view: &Book, six: bool, packet: &[u8]) -> Option<Hop> {
     }
     let id = if six { 0 } else { 5 };
     relay_hop(alloc, view, &PARAMS, six, packet, id, None).ok()
-}
-
-/// The exit and the octets of a packet that a hop sends.
-fn parts(out: &Out) -> (Exit, &[u8]) {
-    match out {
-        Out::Lan(octets) => (Exit::ToLan, octets.as_slice()),
-        Out::Access(octets) => (Exit::ToAccess, octets.as_slice()),
-        Out::Core(octets) => (Exit::ToCore, octets.as_slice()),
-        Out::Turn(octets) => (Exit::ToItself, octets.as_slice()),
-    }
 }
 
 /// The hop sends this packet or none, and drops one for this cause or none.
