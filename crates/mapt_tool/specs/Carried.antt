@@ -1,5 +1,5 @@
 -- What stands outside after a plan was carried out, by how that ended.
-use Rattle.std.specs.Prelude.{◌≡◌, ◌⊎◌, ℕ, List, ◌∷◌, ◌++◌}
+use Rattle.std.specs.Prelude.{◌≡◌, ◌⊎◌, ◌<◌, ℕ, List, ◌∷◌, ◌++◌, length}
 use Rattle.octets.specs.Count.{Rose}
 use Rattle.outside.specs.Files.{SameBut}
 use Rattle.outside.specs.Seen.{FolderSeen, SinkSeen, CallFailed}
@@ -45,10 +45,17 @@ Wrote old new writes (WriteFault file) = FailedAt old new writes file
 Wrote old new writes NoMemory = Began old new writes
 Wrote old new writes other = ⊥
 
+-- the putting of a text failed: its first octets may stand there. A text of no octets isn't put
+pub record Unsaid (old new : SinkSeen) (text : List ℕ) (file : FileId) : Type 0 where
+  pub some : 0 < length text
+  pub named : file ≡ Report
+  pub failed : Rose old.faults new.faults
+  pub beginning : GainedBeginning old.written new.written text
+
 -- how the text was put
 abbrev pub Said : SinkSeen → SinkSeen → List ℕ → Status → Type 0
 Said old new text Done = new ≡ record old { written = gained old.written text }
-Said old new text (WriteFault file) = (file ≡ Report) × Rose old.faults new.faults × GainedBeginning old.written new.written text
+Said old new text (WriteFault file) = Unsaid old new text file
 Said old new text NoMemory = new ≡ old
 Said old new text other = ⊥
 

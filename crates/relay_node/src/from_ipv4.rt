@@ -8,14 +8,13 @@ ghost use Rattle.packets.specs.Behind4.{IsDropped4};
 ghost use Rattle.packets.specs.Packet4.{IsPacket4};
 ghost use Rattle.transit.specs.declared.exit.Exit.TheVariants.{ToAccess as LeavesToAccess};
 ghost use Rattle.transit.specs.Hop.{IsCarried, IsFreed};
-ghost use Rattle.relay_node.specs.Relay.{relay_at, destination_port, own_of};
+ghost use Rattle.relay_node.specs.Relay.{destination_port, own_of};
 ghost use Rattle.relay_node.specs.Gains.{Gains};
 ghost use Rattle.relay_node.specs.Hop.{IsAnswered, IsHop4};
 ghost use Rattle.relay_node.specs.FromIpv4.{far_end, ends46, IsRefused4, IsFaulty4, IsPassed4, IsSent4, Becomes4, IsLaterFragment4, IsOne4, AreFreed4};
 
-use crate::RelayParams;
 use crate::asked::is_later;
-use crate::exit::{embedded, exit_to};
+use crate::relay::Relay;
 use frag_table::FragAnswer;
 use icmp_xlat::Ends;
 use ip4_packet::Head4;
@@ -30,9 +29,7 @@ use transit::{Exit, Passage, drop_packet, passage46, reply4, send, send_pieces};
 /// The hop drops a packet with this header too, and answers it where an error may.
 fn refuse4<V: RuleView>(
     alloc: Global,
-    view: &V,
-    params: &RelayParams,
-    id: u16,
+    relay: &Relay<V>,
     head: &Head4,
     packet: &[u8],
     cause: Cause,
@@ -40,27 +37,32 @@ fn refuse4<V: RuleView>(
 ) -> Result<(), NoMemory>
     requires is { Is4 head.now (payload_of4 head.now packet.now) packet.now }
     requires fine { HasNoHeaderCause4 packet.now }
-    ensures { OnOk result (Gains (IsRefused4 (relay_at (V.rules view.now) (V.default_rule view.now) params.now id) head.now packet.now cause) hop.old hop.new) }
+    ensures { OnOk result (Gains (IsRefused4 relay.now head.now packet.now cause) hop.old hop.new) }
 {
-    let reply = reply4(alloc, params.mtus, cause, packet, params.relay4, id)?;
-    drop_packet(hop, cause, exit_to(view, head.src), reply)
+    let reply = reply4(
+        alloc,
+        relay.mtus(),
+        cause,
+        packet,
+        relay.addr4(),
+        relay.id(),
+    )?;
+    drop_packet(hop, cause, relay.exit_to(head.src), reply)
 }
 
 /// The hop drops a packet too that every node drops before it looks at a rule.
 fn refuse_unread4<V: RuleView>(
     alloc: Global,
-    view: &V,
-    params: &RelayParams,
-    id: u16,
+    relay: &Relay<V>,
     packet: &[u8],
     cause: Cause,
     hop: &mut Hop,
 ) -> Result<(), NoMemory>
     requires { IsDropped4 cause packet.now }
-    ensures { OnOk result (Gains (IsFaulty4 (relay_at (V.rules view.now) (V.default_rule view.now) params.now id) packet.now cause) hop.old hop.new) }
+    ensures { OnOk result (Gains (IsFaulty4 relay.now packet.now cause) hop.old hop.new) }
 {
     match Head4::read(packet) {
-        Ok(head) => refuse4(alloc, view, params, id, &head, packet, cause, hop),
+        Ok(head) => refuse4(alloc, relay, &head, packet, cause, hop),
         Err(_) => drop_packet(hop, cause, Exit::ToCore, None),
     }
 }
@@ -68,9 +70,7 @@ fn refuse_unread4<V: RuleView>(
 /// The packet as it is carried on, or dropped.
 fn carry4<V: RuleView>(
     alloc: Global,
-    view: &V,
-    params: &RelayParams,
-    id: u16,
+    relay: &Relay<V>,
     head: &Head4,
     packet: &[u8],
     passage: Passage,
@@ -78,13 +78,13 @@ fn carry4<V: RuleView>(
 ) -> Result<(), NoMemory>
     requires is { Is4 head.now (payload_of4 head.now packet.now) packet.now }
     requires fine { HasNoHeaderCause4 packet.now }
-    ensures { OnOk result (Gains (IsCarried (IsRefused4 (relay_at (V.rules view.now) (V.default_rule view.now) params.now id) head.now packet.now) LeavesToAccess passage) hop.old hop.new) }
+    ensures { OnOk result (Gains (IsCarried (IsRefused4 relay.now head.now packet.now) LeavesToAccess passage) hop.old hop.new) }
 {
     match passage {
         Passage::Sent(octets) => send(hop, Exit::ToAccess, octets),
         Passage::Cut(pieces) => send_pieces(alloc, hop, Exit::ToAccess, &pieces),
-        Passage::Spent => refuse4(alloc, view, params, id, head, packet, Cause::TtlSpent, hop),
-        Passage::TooBig => refuse4(alloc, view, params, id, head, packet, Cause::TooBig, hop),
+        Passage::Spent => refuse4(alloc, relay, head, packet, Cause::TtlSpent, hop),
+        Passage::TooBig => refuse4(alloc, relay, head, packet, Cause::TooBig, hop),
     }
 }
 
@@ -101,22 +101,14 @@ fn far_end(taken: &Packet4) -> Addr4
 }
 
 /// The ends over IPv6, where the destination has this MAP address.
-fn ends<V: RuleView>(
-    view: &V,
-    params: &RelayParams,
-    id: u16,
-    taken: &Packet4,
-    own: Addr6,
-    ports: Ports,
-) -> Ends<Addr6>
-    ensures { result ≡ ends46 (relay_at (V.rules view.now) (V.default_rule view.now) params.now id) taken.now own ports }
+fn ends<V: RuleView>(relay: &Relay<V>, taken: &Packet4, own: Addr6, ports: Ports) -> Ends<Addr6>
+    ensures { result ≡ ends46 relay.now taken.now own ports }
 {
-    let dmr = view.dmr();
     Ends {
-        src: embedded(&dmr, taken.head.src),
+        src: relay.embedded(taken.head.src),
         dst: own,
         inner_src: own,
-        inner_dst: embedded(&dmr, far_end(taken)),
+        inner_dst: relay.embedded(far_end(taken)),
         ports,
     }
 }
@@ -124,78 +116,66 @@ fn ends<V: RuleView>(
 /// What becomes of the packet between these ends.
 fn pass4<V: RuleView>(
     alloc: Global,
-    view: &V,
-    params: &RelayParams,
-    id: u16,
+    relay: &Relay<V>,
     taken: &Packet4,
     packet: &[u8],
     ends: &Ends<Addr6>,
     hop: &mut Hop,
 ) -> Result<(), NoMemory>
     requires { IsPacket4 taken.now packet.now }
-    ensures { OnOk result (Gains (IsPassed4 (relay_at (V.rules view.now) (V.default_rule view.now) params.now id) taken.now packet.now ends.now) hop.old hop.new) }
+    ensures { OnOk result (Gains (IsPassed4 relay.now taken.now packet.now ends.now) hop.old hop.new) }
 {
-    let passage = passage46(alloc, params.mtus, taken, packet, ends)?;
-    carry4(alloc, view, params, id, &taken.head, packet, passage, hop)
+    let passage = passage46(alloc, relay.mtus(), taken, packet, ends)?;
+    carry4(alloc, relay, &taken.head, packet, passage, hop)
 }
 
 /// The MAP address of the packet's destination for the port of the flow, where a rule gives one.
-fn own<V: RuleView>(
-    view: &V,
-    params: &RelayParams,
-    id: u16,
-    taken: &Packet4,
-    ports: Ports,
-) -> Option<Addr6>
-    ensures { option_map (λ own. own.0) result ≡ own_of (relay_at (V.rules view.now) (V.default_rule view.now) params.now id) taken.now.head.dst (destination_port (flow_of4 taken.now.content).fault ports) }
+fn own<V: RuleView>(relay: &Relay<V>, taken: &Packet4, ports: Ports) -> Option<Addr6>
+    ensures { option_map (λ own. own.0) result ≡ own_of relay.now taken.now.head.dst (destination_port (flow_of4 taken.now.content).fault ports) }
 {
     let port = if taken.flow().fault {
         ports.src
     } else {
         ports.dst
     };
-    view.owner(taken.head.dst, port)
+    relay.owner(taken.head.dst, port)
 }
 
 /// What becomes of the packet where its flow has these ports.
 fn become4<V: RuleView>(
     alloc: Global,
-    view: &V,
-    params: &RelayParams,
-    id: u16,
+    relay: &Relay<V>,
     taken: &Packet4,
     packet: &[u8],
     ports: Ports,
     hop: &mut Hop,
 ) -> Result<(), NoMemory>
     requires { IsPacket4 taken.now packet.now }
-    ensures { OnOk result (Gains (Becomes4 (relay_at (V.rules view.now) (V.default_rule view.now) params.now id) taken.now packet.now ports) hop.old hop.new) }
+    ensures { OnOk result (Gains (Becomes4 relay.now taken.now packet.now ports) hop.old hop.new) }
 {
-    let Some(own) = own(view, params, id, taken, ports) else {
+    let Some(own) = own(relay, taken, ports) else {
         return drop_packet(hop, Cause::NoOwner, Exit::ToAccess, None);
     };
-    let ends = ends(view, params, id, taken, own, ports);
-    pass4(alloc, view, params, id, taken, packet, &ends, hop)
+    let ends = ends(relay, taken, own, ports);
+    pass4(alloc, relay, taken, packet, &ends, hop)
 }
 
 /// What becomes of a fragment that was freed.
 fn free4<V: RuleView>(
     alloc: Global,
-    view: &V,
-    params: &RelayParams,
-    id: u16,
+    relay: &Relay<V>,
     octets: &[u8],
     ports: Ports,
     hop: &mut Hop,
 ) -> Result<(), NoMemory>
-    ensures { OnOk result (Gains (IsFreed IsLaterFragment4 (IsOne4 (relay_at (V.rules view.now) (V.default_rule view.now) params.now id) ports) octets.now) hop.old hop.new) }
+    ensures { OnOk result (Gains (IsFreed IsLaterFragment4 (IsOne4 relay.now ports) octets.now) hop.old hop.new) }
 {
     match Packet4::read(alloc, octets) {
         Ok(taken) => {
             if !is_later(taken.extent()) {
                 return Ok(());
             }
-            become4(alloc, view, params, id, &taken, octets, ports, hop)
+            become4(alloc, relay, &taken, octets, ports, hop)
         }
         Err(Fault::Drop(_)) => Ok(()),
         Err(Fault::NoMemory) => Err(NoMemory),
@@ -205,17 +185,15 @@ fn free4<V: RuleView>(
 /// What becomes of fragments that were freed, in their order.
 fn free_all4<V: RuleView>(
     alloc: Global,
-    view: &V,
-    params: &RelayParams,
-    id: u16,
+    relay: &Relay<V>,
     parcels: &[Parcel],
     ports: Ports,
     hop: &mut Hop,
 ) -> Result<(), NoMemory>
-    ensures { OnOk result (Gains (AreFreed4 (relay_at (V.rules view.now) (V.default_rule view.now) params.now id) ports parcels.now) hop.old hop.new) }
+    ensures { OnOk result (Gains (AreFreed4 relay.now ports parcels.now) hop.old hop.new) }
 {
     for parcel in parcels {
-        free4(alloc, view, params, id, parcel.bytes.as_slice(), ports, hop)?;
+        free4(alloc, relay, parcel.bytes.as_slice(), ports, hop)?;
     }
     Ok(())
 }
@@ -223,25 +201,23 @@ fn free_all4<V: RuleView>(
 /// What becomes of a fragment that was read, by what the notes told of it.
 fn told4<V: RuleView>(
     alloc: Global,
-    view: &V,
-    params: &RelayParams,
-    id: u16,
+    relay: &Relay<V>,
     taken: &Packet4,
     packet: &[u8],
     told: &FragAnswer,
     hop: &mut Hop,
 ) -> Result<(), NoMemory>
     requires { IsPacket4 taken.now packet.now }
-    ensures { OnOk result (Gains (IsAnswered (Becomes4 (relay_at (V.rules view.now) (V.default_rule view.now) params.now id) taken.now packet.now) (AreFreed4 (relay_at (V.rules view.now) (V.default_rule view.now) params.now id)) (flow_of4 taken.now.content).ports (Some told.now)) hop.old hop.new) }
+    ensures { OnOk result (Gains (IsAnswered (Becomes4 relay.now taken.now packet.now) (AreFreed4 relay.now) (flow_of4 taken.now.content).ports (Some told.now)) hop.old hop.new) }
 {
     let ports = taken.flow().ports;
     match told {
-        FragAnswer::Noted => become4(alloc, view, params, id, taken, packet, ports, hop),
-        FragAnswer::Known(first) => become4(alloc, view, params, id, taken, packet, *first, hop),
+        FragAnswer::Noted => become4(alloc, relay, taken, packet, ports, hop),
+        FragAnswer::Known(first) => become4(alloc, relay, taken, packet, *first, hop),
         FragAnswer::Held => Ok(()),
         FragAnswer::Released(parcels) => {
-            become4(alloc, view, params, id, taken, packet, ports, hop)?;
-            free_all4(alloc, view, params, id, parcels.as_slice(), ports, hop)
+            become4(alloc, relay, taken, packet, ports, hop)?;
+            free_all4(alloc, relay, parcels.as_slice(), ports, hop)
         }
         FragAnswer::Full => drop_packet(hop, Cause::FragmentsFull, Exit::ToCore, None),
     }
@@ -250,47 +226,34 @@ fn told4<V: RuleView>(
 /// What becomes of a packet that was read, by what the notes told of it.
 fn answer4<V: RuleView>(
     alloc: Global,
-    view: &V,
-    params: &RelayParams,
-    id: u16,
+    relay: &Relay<V>,
     taken: &Packet4,
     packet: &[u8],
     told: Option<&FragAnswer>,
     hop: &mut Hop,
 ) -> Result<(), NoMemory>
     requires { IsPacket4 taken.now packet.now }
-    ensures { OnOk result (Gains (IsAnswered (Becomes4 (relay_at (V.rules view.now) (V.default_rule view.now) params.now id) taken.now packet.now) (AreFreed4 (relay_at (V.rules view.now) (V.default_rule view.now) params.now id)) (flow_of4 taken.now.content).ports (option_map (λ answer. answer.now) told.entry)) hop.old hop.new) }
+    ensures { OnOk result (Gains (IsAnswered (Becomes4 relay.now taken.now packet.now) (AreFreed4 relay.now) (flow_of4 taken.now.content).ports (option_map (λ answer. answer.now) told.entry)) hop.old hop.new) }
 {
     match told {
-        Some(told) => told4(alloc, view, params, id, taken, packet, told, hop),
-        None => become4(
-            alloc,
-            view,
-            params,
-            id,
-            taken,
-            packet,
-            taken.flow().ports,
-            hop,
-        ),
+        Some(told) => told4(alloc, relay, taken, packet, told, hop),
+        None => become4(alloc, relay, taken, packet, taken.flow().ports, hop),
     }
 }
 
 /// The hop takes this packet too.
 pub(crate) fn take4<V: RuleView>(
     alloc: Global,
-    view: &V,
-    params: &RelayParams,
+    relay: &Relay<V>,
     packet: &[u8],
-    id: u16,
     told: Option<&FragAnswer>,
     hop: &mut Hop,
 ) -> Result<(), NoMemory>
-    ensures { OnOk result (Gains (IsHop4 (relay_at (V.rules view.now) (V.default_rule view.now) params.now id) packet.now (option_map (λ answer. answer.now) told.entry)) hop.old hop.new) }
+    ensures { OnOk result (Gains (IsHop4 relay.now packet.now (option_map (λ answer. answer.now) told.entry)) hop.old hop.new) }
 {
     match Packet4::read(alloc, packet) {
-        Ok(taken) => answer4(alloc, view, params, id, &taken, packet, told, hop),
-        Err(Fault::Drop(cause)) => refuse_unread4(alloc, view, params, id, packet, cause, hop),
+        Ok(taken) => answer4(alloc, relay, &taken, packet, told, hop),
+        Err(Fault::Drop(cause)) => refuse_unread4(alloc, relay, packet, cause, hop),
         Err(Fault::NoMemory) => Err(NoMemory),
     }
 }

@@ -7,6 +7,7 @@ ghost use Rattle.relay_node.specs.Hop.{IsRelayHop, IsHop4, IsHop6};
 use crate::RelayParams;
 use crate::from_access::take6;
 use crate::from_ipv4::take4;
+use crate::relay::Relay;
 use frag_table::FragAnswer;
 use octets::NoMemory;
 use packet_faults::Hop;
@@ -17,32 +18,28 @@ use transit::nothing;
 /// A hop of a packet from the access network.
 fn hop6<V: RuleView>(
     alloc: Global,
-    view: &V,
-    params: &RelayParams,
+    relay: &Relay<V>,
     packet: &[u8],
-    id: u16,
     frag: Option<&FragAnswer>,
 ) -> Result<Hop, NoMemory>
-    ensures { IfOk result (λ hop. IsHop6 (relay_at (V.rules view.now) (V.default_rule view.now) params.now id) packet.now (option_map (λ answer. answer.now) frag.entry) hop) }
+    ensures { IfOk result (λ hop. IsHop6 relay.now packet.now (option_map (λ answer. answer.now) frag.entry) hop) }
 {
     let mut hop = nothing(alloc);
-    take6(alloc, view, params, packet, id, frag, &mut hop)?;
+    take6(alloc, relay, packet, frag, &mut hop)?;
     Ok(hop)
 }
 
 /// A hop of a packet from IPv4.
 fn hop4<V: RuleView>(
     alloc: Global,
-    view: &V,
-    params: &RelayParams,
+    relay: &Relay<V>,
     packet: &[u8],
-    id: u16,
     frag: Option<&FragAnswer>,
 ) -> Result<Hop, NoMemory>
-    ensures { IfOk result (λ hop. IsHop4 (relay_at (V.rules view.now) (V.default_rule view.now) params.now id) packet.now (option_map (λ answer. answer.now) frag.entry) hop) }
+    ensures { IfOk result (λ hop. IsHop4 relay.now packet.now (option_map (λ answer. answer.now) frag.entry) hop) }
 {
     let mut hop = nothing(alloc);
-    take4(alloc, view, params, packet, id, frag, &mut hop)?;
+    take4(alloc, relay, packet, frag, &mut hop)?;
     Ok(hop)
 }
 
@@ -69,9 +66,10 @@ pub fn relay_hop<V: RuleView>(
     requires { IsTold six packet.now (option_map (λ answer. answer.now) frag) }
     ensures { IfOk result (λ hop. IsRelayHop (relay_at (V.rules view.now) (V.default_rule view.now) params.now id) six packet.now (option_map (λ answer. answer.now) frag.entry) hop) }
 {
+    let relay = Relay::new(view, params, id);
     if six {
-        hop6(alloc, view, params, packet, id, frag)
+        hop6(alloc, &relay, packet, frag)
     } else {
-        hop4(alloc, view, params, packet, id, frag)
+        hop4(alloc, &relay, packet, frag)
     }
 }

@@ -3,11 +3,11 @@
 
 mod asked;
 mod equal;
-mod exit;
 mod from_access;
 mod from_ipv4;
 mod hop;
 mod params;
+mod relay;
 
 pub use asked::{frag_of, stripe_of};
 pub use equal::equal_values_are_the_same;

@@ -2,7 +2,6 @@ use Rattle.std.proofs.Common.{◌≡◌, ◌∙◌, ◌<◌, ◌+◌, ℕ, List,
 use Rattle.std.proofs.lemmas.List.{take_more}
 use Rattle.octets.specs.declared.parcel.Parcel.{Parcel}
 use Rattle.transit.specs.Hop.{IsFreed}
-use Rattle.relay_node.specs.Relay.{relay_at}
 use Rattle.relay_node.specs.Gains.{Gains}
 use Rattle.relay_node.specs.FromIpv4.{IsLaterFragment4, IsOne4, AreFreed4}
 use Rattle.relay_node.proofs.Gained.{unmoved, freed_more}
@@ -10,12 +9,12 @@ use Rattle.relay_node.proofs.from_ipv4.free_all4.Goals as goal
 
 pub loop-parcel-init : goal.loop-parcel-init
 loop-parcel-init g c =
-    let relay = relay_at (g.V.RuleView.rules c.args.view.now) (g.V.RuleView.default_rule c.args.view.now) c.args.params.now c.args.id in
+    let relay = c.args.relay.now in
     unmoved (AreFreed4 relay c.args.ports []) c.args.hop.now refl
 
 pub loop-parcel-preserved : goal.loop-parcel-preserved
 loop-parcel-preserved g c =
-    let relay = relay_at (g.V.RuleView.rules c.args.view.now) (g.V.RuleView.default_rule c.args.view.now) c.args.params.now c.args.id in
+    let relay = c.args.relay.now in
     let parcels = c.args.parcels.now in
     let i = c.loop-parcel.parcel-index in
     let item = c.parcel-item.result in

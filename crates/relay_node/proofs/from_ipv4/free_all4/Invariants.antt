@@ -1,5 +1,4 @@
 use Rattle.std.proofs.Common.{take}
-use Rattle.relay_node.specs.Relay.{relay_at}
 use Rattle.relay_node.specs.Gains.{Gains}
 use Rattle.relay_node.specs.FromIpv4.{AreFreed4}
 use Rattle.relay_node.proofs.from_ipv4.free_all4.Given as goal
@@ -7,4 +6,4 @@ use Rattle.relay_node.proofs.from_ipv4.free_all4.Given as goal
 -- the fragments so far
 abbrev pub invariant-loop-parcel : goal.invariant-loop-parcel
 invariant-loop-parcel g l =
-    Gains (AreFreed4 (relay_at (g.V.RuleView.rules l.view) (g.V.RuleView.default_rule l.view) l.params l.id) l.ports (take l.parcel-index l.parcels)) l.fn.hop l.hop
+    Gains (AreFreed4 (l.relay) l.ports (take l.parcel-index l.parcels)) l.fn.hop l.hop
