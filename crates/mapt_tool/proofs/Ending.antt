@@ -149,7 +149,7 @@ unwritten_rose old mid new plan file reads handed silent (inl failed) sound =
     let rose : Rose mid.folder.faults new.folder.faults = failed.0.failed.rose in
     sound.folder (rw count at rose)
 unwritten_rose old mid new plan file reads handed silent (inr failed) sound =
-    sound.sink (rw (ap (λ (s : SinkSeen). s.faults) silent) at failed.1.1)
+    sound.sink (rw (ap (λ (s : SinkSeen). s.faults) silent) at failed.1.failed)
 
 pub tells_one : (request : Request) (old new : Outside) (files : Files) (status : Status) → old.folder.files ≡ Some files → Ends request old new status → NothingFailed old new → IsTold request files status
 tells_one request old new files Done is ends sound =
