@@ -2,7 +2,9 @@
 
 use super::files::{HOME, PLAIN, capture_of, text_of, words_of};
 use mapt_tool::{Status, mapt_plain};
+use octets::Bytes;
 use outside::{FileId, Folder, MemFolder, MemSink, RealFolder, RealSink, Sink};
+use std::alloc::Global;
 use std::test::Fail;
 
 #[test]
@@ -45,6 +47,35 @@ fn calls_that_fail(rt: HostRuntime) -> Result<(), Fail> {
     assert!(rt; out.put(alloc, b"text").is_err());
     assert!(rt; out.put(alloc, b"text").is_ok());
     assert_eq!(rt; out.as_slice(), b"text".as_slice());
+    Ok(())
+}
+
+/// The home's configuration with a comment at its end, of this length.
+fn of_length(alloc: Global, length: usize) -> Result<Bytes, Fail> {
+    let mut octets = Bytes::new(alloc);
+    octets.extend(text_of(alloc, &HOME)?.as_bytes())?;
+    octets.push(b'#')?;
+    for _ in octets.as_slice().len()..length {
+        octets.push(b' ')?;
+    }
+    Ok(octets)
+}
+
+#[test]
+fn a_file_is_read_in_pieces_of_65_536_octets(rt: HostRuntime) -> Result<(), Fail> {
+    let alloc = rt.alloc();
+    let words = words_of(alloc, &["rules", "home.toml", "0"])?;
+    // The third read fails, which a file of one piece doesn't take: it is read, and then its end.
+    for (length, want) in [
+        (65_536, Status::Done),
+        (65_537, Status::ReadFault(FileId::Config)),
+    ] {
+        let mut folder = MemFolder::new(alloc, vec![in alloc; 2]?, vec![in alloc]?);
+        folder.put_file("home.toml", of_length(alloc, length)?.as_slice())?;
+        let mut out = MemSink::new(alloc, vec![in alloc]?);
+        let status = mapt_plain(alloc, &words, &mut folder, &mut out);
+        assert_eq!(rt; status, want, "{length} octets");
+    }
     Ok(())
 }
 
