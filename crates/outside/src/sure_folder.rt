@@ -48,7 +48,9 @@ impl SureFolder {
 }
 
 impl Folder for SureFolder {
-    ghost use Rattle.std.specs.Prelude.{Some, None};
+    ghost use Rattle.std.specs.Prelude.{◌≡◌, ◌≤◌, length, Some, None, IfOk, IsOk};
+    ghost use Rattle.outside.specs.Seen.{ReadEnds};
+    ghost use Rattle.outside.specs.InMemory.{sure_seen};
 
     ghost files = { λ s. Some s.store };
 
@@ -61,11 +63,16 @@ impl Folder for SureFolder {
     fn read_at(
         &mut self,
         _alloc: Global,
-        _file: FileId,
+        file: FileId,
         name: &str,
         offset: u64,
         buf: &mut [u8],
-    ) -> Result<usize, OutFault> {
+    ) -> Result<usize, OutFault>
+        ensures within { IfOk result (λ n. n ≤ length buf.old) }
+        ensures ends { ReadEnds (sure_seen self.old) (sure_seen self.new) file name.now offset buf.new result }
+        // It takes no memory either.
+        ensures answers { IsOk result }
+    {
         let content = self.store.file(name).unwrap_or(&[]);
         let count = copy_piece(content, offset, buf);
         self.handed = self.handed.saturating_add(count as u64);
