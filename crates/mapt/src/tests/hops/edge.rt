@@ -2,7 +2,7 @@
 
 ghost use Rattle.edge_node.specs.Hop.{IsAnswerAt};
 
-use super::parts;
+use super::{EVEN, parts};
 use edge_node::{EdgeParams, Way, ask_of, emit};
 use nat_model::{Answer, Ask, Part};
 use octets::{Addr4, Addr6, Cause, Fault, Mtus, NoMemory, Parcels, Proto};
@@ -206,13 +206,11 @@ const ROUTED4: &[u8] =
 const ROUTED6: &[u8] =
     b"\x60\x00\x00\x00\x00\x42\x3a\x40\x20\x01\x0d\xb8\x00\x12\x34\x00\x00\x00\xc0\x00\x02\x12\x00\x34\x20\x01\x0d\xb8\xff\xff\x00\x00\x00\xc6\x33\x64\x07\x00\x00\x00\x04\x00\xd2\x2a\x00\x00\x00\x2b\x60\x00\x00\x00\x00\x12\x2b\x40\x20\x01\x0d\xb8\xff\xff\x00\x00\x00\xc6\x33\x64\x07\x00\x00\x00\x20\x01\x0d\xb8\x00\x12\x34\x00\x00\x00\xc0\x00\x02\x12\x00\x34\x11\x00\x00\x01\x00\x00\x00\x00\x00\x35\x04\xd0\x00\x0a\x05\x77\x68\x69";
 
-fn home() -> EdgeParams {
+/// The edge of the home, whose address on its LAN is 192.168.1.1.
+pub(super) fn home(mtus: Mtus) -> EdgeParams {
     EdgeParams {
         lan: Addr4(0xc0a8_0101),
-        mtus: Mtus {
-            mtu4: 1500,
-            mtu6: 1500,
-        },
+        mtus,
     }
 }
 
@@ -246,7 +244,7 @@ pub(super) fn dropped(
                 cause,
                 freed: Parcels::new(alloc),
             };
-            let hop = emit(alloc, &home(), way, &answer, packet, 7)?;
+            let hop = emit(alloc, &home(EVEN), way, &answer, packet, 7)?;
             Ok(Some((cause, hop)))
         }
     }
@@ -285,7 +283,7 @@ fn packets_of_a_home_are_emitted(rt: HostRuntime) -> Result<(), Fail> {
         };
         assert!(rt;
             sends(
-                &emitted(alloc, &home(), Way::Lan, &answer, packet)?,
+                &emitted(alloc, &home(EVEN), Way::Lan, &answer, packet)?,
                 to,
                 expected
             )
@@ -301,7 +299,7 @@ fn packets_of_a_home_are_emitted(rt: HostRuntime) -> Result<(), Fail> {
         };
         assert!(rt;
             sends(
-                &emitted(alloc, &home(), Way::Access, &answer, packet)?,
+                &emitted(alloc, &home(EVEN), Way::Access, &answer, packet)?,
                 to,
                 expected
             )
@@ -314,7 +312,7 @@ fn packets_of_a_home_are_emitted(rt: HostRuntime) -> Result<(), Fail> {
     };
     assert!(rt;
         sends(
-            &emitted(alloc, &home(), Way::Lan, &turn, BEFORE)?,
+            &emitted(alloc, &home(EVEN), Way::Lan, &turn, BEFORE)?,
             Exit::ToItself,
             TURNED
         )
@@ -328,7 +326,7 @@ fn packets_of_a_home_are_emitted(rt: HostRuntime) -> Result<(), Fail> {
     };
     assert!(rt;
         sends(
-            &emitted(alloc, &home(), Way::Turned, &received, TURNED)?,
+            &emitted(alloc, &home(EVEN), Way::Turned, &received, TURNED)?,
             Exit::ToLan,
             RECEIVED
         )

@@ -4,9 +4,9 @@ ghost use Rattle.std.specs.Prelude.{IsTrue, ◌<◌};
 ghost use Rattle.edge_node.specs.Hop.{IsAnswerAt};
 
 use super::Text::{self, Long, Plain};
-use super::edge::{EDGE, FAR, dropped, emitted};
+use super::edge::{EDGE, FAR, dropped, emitted, home};
 use super::{EVEN, LOW, NARROW, WIDE, drops_alone, is_hop, parcels, written};
-use edge_node::{EdgeParams, Way};
+use edge_node::Way;
 use nat_model::Answer;
 use octets::{Addr4, Cause, Fault, Mtus, NoMemory, Parcels};
 use packet_faults::Hop;
@@ -1483,11 +1483,7 @@ fn asked(alloc: Global, row: &Row, packet: &[u8]) -> Result<Option<Hop>, NoMemor
     if !is_answer_at(row.way, &answer) {
         return Ok(None);
     }
-    let home = EdgeParams {
-        lan: Addr4(0xc0a8_0101),
-        mtus: row.mtus,
-    };
-    match emitted(alloc, &home, row.way, &answer, packet) {
+    match emitted(alloc, &home(row.mtus), row.way, &answer, packet) {
         Ok(hop) => Ok(Some(hop)),
         Err(Fault::NoMemory) => Err(NoMemory),
         Err(Fault::Drop(_)) => Ok(None),

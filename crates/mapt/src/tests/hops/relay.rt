@@ -3,7 +3,7 @@
 ghost use Rattle.std.specs.Prelude.{IsTrue, None};
 ghost use Rattle.relay_node.specs.Asked.{IsTold};
 
-use super::parts;
+use super::{EVEN, parts};
 use frag_table::FragKey;
 use map_rules::{Dmr, Rule};
 use octets::{Addr4, Addr6, Cause, Mtus, Prefix4, Prefix6};
@@ -14,20 +14,21 @@ use std::alloc::Global;
 use std::test::Fail;
 use transit::Exit;
 
-/// The relay's address is 198.51.100.1.
-const PARAMS: RelayParams = RelayParams {
-    relay4: Addr4(0xc633_6401),
-    mtus: Mtus {
-        mtu4: 1500,
-        mtu6: 1500,
-    },
-};
+/// The IPv4 prefix of the rule. It has 24 bits.
+pub(super) const FIRST: Addr4 = Addr4(0xc000_0200);
 
-/// The rule 2001:db8::/40 and 192.0.2.0/24 with 16 EA bits, and the default mapping rule 2001:db8:ffff::/64.
-fn book(alloc: Global) -> Option<Book> {
+/// The relay, whose address is 198.51.100.1.
+pub(super) fn params(mtus: Mtus) -> RelayParams {
+    RelayParams {
+        relay4: Addr4(0xc633_6401),
+        mtus,
+    }
+}
+
+/// The rule 2001:db8::/40 and this IPv4 prefix with 16 EA bits, and the default mapping rule 2001:db8:ffff::/64.
+pub(super) fn book(alloc: Global, prefix4: Addr4) -> Option<Book> {
     let prefix6 = Prefix6::new(Addr6(0x2001_0db8 << 96), 40)?;
-    let prefix4 = Prefix4::new(Addr4(0xc000_0200), 24)?;
-    let rule = Rule::new(prefix6, prefix4, 16, 6, false).ok()?;
+    let rule = Rule::new(prefix6, Prefix4::new(prefix4, 24)?, 16, 6, false).ok()?;
     let dmr = Dmr::new(Prefix6::new(Addr6(0x2001_0db8_ffff << 80), 64)?)?;
     Book::start(alloc, &[rule], dmr).ok()
 }
@@ -48,7 +49,7 @@ fn whole(alloc: Global, view: &Book, six: bool, packet: &[u8]) -> Option<Hop> {
         return None;
     }
     let id = if six { 0 } else { 5 };
-    relay_hop(alloc, view, &PARAMS, six, packet, id, None).ok()
+    relay_hop(alloc, view, &params(EVEN), six, packet, id, None).ok()
 }
 
 /// The hop sends this packet or none, and drops one for this cause or none.
@@ -247,7 +248,7 @@ fn notes_stand_in_the_stripe_of_their_identification(rt: HostRuntime) {
 #[test]
 fn hops_are_those_that_were_computed_elsewhere(rt: HostRuntime) -> Result<(), Fail> {
     let alloc = rt.alloc();
-    let Some(view) = book(alloc) else {
+    let Some(view) = book(alloc, FIRST) else {
         return Err("no book".into());
     };
     for (six, packet, sent, dropped) in HOPS {

@@ -5,14 +5,13 @@ ghost use Rattle.std.specs.Option.{option_map};
 ghost use Rattle.relay_node.specs.Asked.{IsTold, MayBeTold};
 
 use super::Text::{self, Long, Plain};
+use super::relay::{FIRST, book, params};
 use super::{EVEN, LOW, NARROW, WIDE, drops_alone, is_hop, parcels, written};
 use frag_table::{FragAnswer, FragAsk};
 use l4_headers::Ports;
-use map_rules::{Dmr, Rule};
-use octets::{Addr4, Addr6, Cause, Fault, Mtus, NoMemory, Prefix4, Prefix6};
+use octets::{Addr4, Cause, Fault, Mtus, NoMemory};
 use packet_faults::Hop;
-use relay_node::{RelayParams, frag_of, relay_hop};
-use rule_book::Book;
+use relay_node::{frag_of, relay_hop};
 use std::alloc::Global;
 use std::test::Fail;
 use transit::Exit;
@@ -30,9 +29,7 @@ enum Told {
     Full,
 }
 
-/// The IPv4 prefix of the rule, and that after a change of rules. Both have 24 bits.
-const FIRST: Addr4 = Addr4(0xc000_0200);
-
+/// The IPv4 prefix of the rule after a change of rules.
 const CHANGED: Addr4 = Addr4(0xcb00_7100);
 
 /// A hop: where its packet comes from, the packet, what is told of it, and under which rules; what is sent, and what is
@@ -1458,23 +1455,12 @@ fn is_told(alloc: Global, six: bool, packet: &[u8], told: Option<&FragAnswer>) -
     }
 }
 
-/// The rule 2001:db8::/40 and this IPv4 prefix with 16 EA bits, and the default mapping rule 2001:db8:ffff::/64.
-fn book(alloc: Global, prefix4: Addr4) -> Option<Book> {
-    let prefix6 = Prefix6::new(Addr6(0x2001_0db8 << 96), 40)?;
-    let rule = Rule::new(prefix6, Prefix4::new(prefix4, 24)?, 16, 6, false).ok()?;
-    let dmr = Dmr::new(Prefix6::new(Addr6(0x2001_0db8_ffff << 80), 64)?)?;
-    Book::start(alloc, &[rule], dmr).ok()
-}
-
 /// The hop of a row. There is none where its packet may not be told so.
 fn hop_of(alloc: Global, row: &Row) -> Result<Option<Hop>, NoMemory> {
     let Some(view) = book(alloc, row.prefix4) else {
         return Ok(None);
     };
-    let params = RelayParams {
-        relay4: Addr4(0xc633_6401),
-        mtus: row.mtus,
-    };
+    let params = params(row.mtus);
     let packet = written(alloc, row.packet)?;
     let told = answer(alloc, row.told)?;
     if !is_told(alloc, row.six, packet.as_slice(), told.as_ref()) {
