@@ -1,8 +1,7 @@
-//! What the top calls answer on known inputs, over folders and sinks in memory; and hops of both nodes.
+//! What the top calls answer on known inputs, over folders and sinks in memory.
 
 mod calls;
 mod files;
-mod hops;
 mod lines;
 mod printed;
 mod refusals;

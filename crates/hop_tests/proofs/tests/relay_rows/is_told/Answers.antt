@@ -6,7 +6,7 @@ use Rattle.octets.specs.declared.cause.Fault.TheVariants.{Drop, NoMemory}
 use Rattle.frag_table.specs.declared.ask.FragAsk.{FragAsk}
 use Rattle.frag_table.specs.declared.answer.FragAnswer.{FragAnswer}
 use Rattle.relay_node.specs.Asked.{AsksFrom, IsDroppedFrom, MayBeTold, IsTold}
-use Rattle.mapt.proofs.tests.hops.relay_rows.is_told.Goals as goal
+use Rattle.hop_tests.proofs.tests.relay_rows.is_told.Goals as goal
 
 -- a packet that asks is told what its ask may be told
 told_asked : (six : Bool) (octets : List ℕ) (r : Result (Option FragAsk) Fault) (given : Option FragAsk) (told : Option FragAnswer)

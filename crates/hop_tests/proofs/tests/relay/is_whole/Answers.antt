@@ -4,7 +4,7 @@ use Rattle.octets.specs.declared.cause.Fault.{Fault}
 use Rattle.octets.specs.declared.cause.Fault.TheVariants.{NoMemory}
 use Rattle.frag_table.specs.declared.ask.FragAsk.{FragAsk}
 use Rattle.relay_node.specs.Asked.{AsksFrom, MayBeTold, IsTold}
-use Rattle.mapt.proofs.tests.hops.relay.is_whole.Goals as goal
+use Rattle.hop_tests.proofs.tests.relay.is_whole.Goals as goal
 
 -- where nothing is asked, nothing is told
 whole_told : (six : Bool) (octets : List ℕ) (r : Result (Option FragAsk) Fault) (given : Option FragAsk) → r ≡ Ok given → given ≡ None
