@@ -1,37 +1,49 @@
 #!/usr/bin/env bash
-# Proves and builds the program, replays the example with it in a folder of its own, and shows the packet
-# that went in and the two that came out.
+# Replays the example in a folder of its own, and shows the packet that went in and the two that came out.
+#
+# Where the gate (.ci/run) has left the proved program, that one runs. Else `rt try` builds one in about a minute, without a proof.
 set -eu
 
 top="$(cd "$(dirname "$0")/.." && pwd)"
+program="$top/crates/mapt/out/mapt"
 work="$(mktemp -d)"
 trap 'rm -rf "$work"' EXIT
+cp "$top/examples/home.toml" "$top/examples/lan-home.pcap" "$work/"
 
-# The first record's packet stands behind 24 octets of file header and 16 of record header.
-show_packet() {
-    od -A n -v -t x1 -j 40 "$1"
+# Whether the proved program is there, and no source is newer.
+is_proved() {
+    [ -x "$program" ] && [ -z "$(find "$top/crates" -path '*/out' -prune -o -name '*.rt' -newer "$program" -print)" ]
 }
 
-echo "Proving and building mapt; the first time takes minutes."
-# Given no words, the program ends with its usage and status 2; that it runs at all says that it is proved.
-(cd "$top/crates/mapt" && rt run) >"$work/build.log" 2>&1 || true
-if ! grep -q '^rt: running out/mapt' "$work/build.log"; then
-    cat "$work/build.log" >&2
-    echo "quickstart: mapt isn't proved or built, as the lines above say" >&2
-    exit 1
+show_packets() {
+    if command -v python3 >/dev/null; then
+        python3 -B "$top/examples/show_packets.py" "$1"
+    else
+        # The first packet stands behind 24 octets of file header and 16 of record header.
+        od -A n -v -t x1 -j 40 "$1"
+    fi
+}
+
+if is_proved; then
+    echo "The program that the gate proved and built: crates/mapt/out/mapt"
+    (cd "$work" && "$program" replay home.toml out-)
+else
+    echo "Building the program without a proof, in about a minute. The gate, .ci/run, proves it."
+    if ! (cd "$top/crates/mapt" && rt try --data "home.toml=$work/home.toml" --data "lan-home.pcap=$work/lan-home.pcap" \
+        -- replay home.toml "$work/out-") >"$work/build.log" 2>&1; then
+        cat "$work/build.log" >&2
+        echo "quickstart: the program wasn't built, or didn't end well, as the lines above say" >&2
+        exit 1
+    fi
 fi
 
-cp "$top/examples/home.toml" "$top/examples/lan-home.pcap" "$work/"
 cd "$work"
-"$top/crates/mapt/out/mapt" replay home.toml out-
-
 echo
-echo "In, on the home's LAN: UDP over IPv4, from 192.168.1.10:5000 to 198.51.100.7:53"
-show_packet lan-home.pcap
+echo "In, on the home's LAN (lan-home.pcap):"
+show_packets lan-home.pcap
 echo
-echo "Out, on the access network: UDP over IPv6, from 2001:db8:12:3400:0:c000:212:34, port 1232,"
-echo "to 2001:db8:ffff:0:c6:3364:700:0, port 53"
-show_packet out-access.pcap
+echo "Out, on the access network (out-access.pcap):"
+show_packets out-access.pcap
 echo
-echo "Out, in the core: UDP over IPv4, from 192.0.2.18:1232 to 198.51.100.7:53"
-show_packet out-core.pcap
+echo "Out, in the core (out-core.pcap):"
+show_packets out-core.pcap

@@ -1,5 +1,5 @@
 -- What a folder holds: a finite map from names to octets.
-use Rattle.std.specs.Prelude.{◌≡◌, ◌≢◌, ℕ, ◌<◌, ◌≤◌, List, [], length, take, drop, Option, Some, None, unwrap_or, ⊤}
+use Rattle.std.specs.Prelude.{◌≡◌, ◌≢◌, ◌⊎◌, ℕ, ◌+◌, ◌<◌, ◌≤◌, List, [], length, take, drop, Option, Some, None, unwrap_or, ⊤}
 use Rattle.std.specs.Ordering.{nat_cmp}
 use Rattle.std.specs.Cmp.Lexicographic.{slice_cmp}
 use Rattle.std.specs.FinMap.{FinMap, get, insert}
@@ -24,6 +24,10 @@ put_if_told (Some files) name octets = Some (with_file files name octets)
 pub record IsPieceOf (content : List ℕ) (offset n : ℕ) (buffer : List ℕ) : Type 0 where
   pub octets : take n buffer ≡ take n (drop offset content)
   pub end : n ≡ 0 → 0 < length buffer → length content ≤ offset
+
+-- n octets from an offset on fill a buffer with this room, or reach the end of the file
+abbrev pub FillsOrEnds : List ℕ → ℕ → ℕ → ℕ → Type 0
+FillsOrEnds content offset n room = (n ≡ room) ⊎ (length content ≤ offset + n)
 
 abbrev pub IsPiece : Option Files → List ℕ → ℕ → ℕ → List ℕ → Type 0
 IsPiece None name offset n buffer = ⊤

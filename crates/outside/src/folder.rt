@@ -22,7 +22,8 @@ pub trait Folder {
     ghost last: { Self → Option Failed };
 
     /// Reads octets of a file from an offset on, at most the buffer's length. Fewer may come than there
-    /// are, but none only at the end of the file. A file that isn't there has no octets, or fails.
+    /// are, but none only at the end of the file. What the buffer holds behind them may be anything. A file
+    /// that isn't there has no octets, or fails.
     ///
     /// `Failed` comes only where the count of faults rose. `NoMemory` changed nothing.
     fn read_at(

@@ -15,6 +15,7 @@ mod sink;
 mod store;
 mod sure_folder;
 mod sure_sink;
+mod whole;
 
 pub use equal::equal_values_are_the_same;
 pub use file_id::{Failure, FileId, Operation, OutFault};

@@ -75,9 +75,10 @@ impl MemFolder {
 }
 
 impl Folder for MemFolder {
-    ghost use Rattle.std.specs.Prelude.{◌≡◌, ◌≤◌, ◌↔◌, length, Contains, Some, OnErr, IfOk, IsErrOf};
+    ghost use Rattle.std.specs.Prelude.{◌≡◌, ◌≤◌, ◌↔◌, length, drop, Contains, Some, OnErr, IfOk, IsErrOf};
     ghost use Rattle.outside.specs.Seen.{ReadEnds, WriteEnds};
-    ghost use Rattle.outside.specs.InMemory.{memory_seen, failing_writes, next_write, FailsToRead, CountsRead, CountsWrite};
+    ghost use Rattle.outside.specs.Files.{content_of, FillsOrEnds};
+    ghost use Rattle.outside.specs.InMemory.{memory_files, memory_seen, failing_writes, next_write, FailsToRead, CountsRead, CountsWrite};
 
     ghost files = { λ s. Some s.store };
 
@@ -97,6 +98,9 @@ impl Folder for MemFolder {
     ) -> Result<usize, OutFault>
         ensures within { IfOk result (λ n. n ≤ length buf.old) }
         ensures ends { ReadEnds (memory_seen self.old) (memory_seen self.new) file name.now offset buf.new result }
+        // It fills the buffer or reaches the end of the file, and leaves the octets behind.
+        ensures fills { IfOk result (λ n. FillsOrEnds (content_of (memory_files self.old) name.now) offset n (length buf.old)) }
+        ensures rest { IfOk result (λ n. drop n buf.new ≡ drop n buf.old) }
         // It fails exactly where its number is listed or the file isn't there, and then leaves the buffer.
         ensures fails { IsErrOf result OutFault.Failed ↔ FailsToRead self.old name.now }
         ensures lacks_nothing { IsErrOf result OutFault.NoMemory → ⊥ }

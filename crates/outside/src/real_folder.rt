@@ -1,11 +1,13 @@
-ghost use Rattle.std.specs.Prelude.{◌≡◌, ◌≤◌, length, IfOk};
+ghost use Rattle.std.specs.Prelude.{◌≡◌, ◌≤◌, length, Some, IfOk};
+ghost use Rattle.octets.specs.Count.{counted};
 
 use crate::file_id::{Failure, FileId, Operation, OutFault};
 use crate::folder::Folder;
+use crate::whole::{fill, write_all};
 use octets::Name;
 use std::alloc::Global;
 use std::fs;
-use std::io::{self, Read, Seek, SeekFrom, Write};
+use std::io::{self, ErrorKind, Seek, SeekFrom};
 use std::rt::Files;
 
 /// A file that was read up to a place, and stays open there.
@@ -41,6 +43,28 @@ impl<R: Files + Drop> RealFolder<R> {
         }
     }
 
+    /// Counts a call that failed.
+    fn fail(&mut self, file: FileId, operation: Operation) -> OutFault
+        ensures counted { self.new ≡ record self.old { faults = counted self.old.faults 1; last = Some (record { file = file; operation = operation }) } }
+        ensures failed { result ≡ OutFault.Failed }
+    {
+        self.faults = self.faults.saturating_add(1);
+        self.last = Some(Failure { file, operation });
+        OutFault::Failed
+    }
+
+    /// What is answered where the system refuses before anything changed: want of memory as such, and anything else as
+    /// a call that failed.
+    fn refuse(&mut self, kind: ErrorKind, file: FileId, operation: Operation) -> OutFault
+        ensures failed { result ≡ OutFault.Failed → self.new ≡ record self.old { faults = counted self.old.faults 1; last = Some (record { file = file; operation = operation }) } }
+        ensures memory { result ≡ OutFault.NoMemory → self.new ≡ self.old }
+    {
+        match kind {
+            ErrorKind::OutOfMemory => OutFault::NoMemory,
+            _ => self.fail(file, operation),
+        }
+    }
+
     /// Reads a piece of the named file, which stays open behind it.
     fn read_piece(
         &mut self,
@@ -73,7 +97,7 @@ impl<R: Files + Drop> RealFolder<R> {
             file.seek(SeekFrom::Start(offset))?;
         }
         let Ok(name) = Name::of(alloc, name) else {
-            return Err(io::Error::from(io::ErrorKind::OutOfMemory));
+            return Err(io::Error::from(ErrorKind::OutOfMemory));
         };
         Ok(Opened {
             name,
@@ -81,35 +105,6 @@ impl<R: Files + Drop> RealFolder<R> {
             file,
         })
     }
-}
-
-/// Reads until the buffer is full or the file ends.
-fn fill(file: &mut impl Read, buf: &mut [u8]) -> io::Result<usize>
-    ensures { IfOk result (λ n. n ≤ length buf.old) }
-{
-    let mut filled = 0;
-    while filled < buf.len() {
-        let count = file.read(&mut buf[filled..])?;
-        if count == 0 {
-            break;
-        }
-        filled += count;
-    }
-    Ok(filled)
-}
-
-/// Makes the file hold these octets.
-fn write_whole<R: Files>(rt: &R, name: &str, bytes: &[u8]) -> io::Result<()> {
-    let mut file = fs::create(rt, name)?;
-    let mut written = 0;
-    while written < bytes.len() {
-        let count = file.write(&bytes[written..])?;
-        if count == 0 {
-            return Err(io::Error::from(io::ErrorKind::WriteZero));
-        }
-        written += count;
-    }
-    Ok(())
 }
 
 impl<R: Files + Drop> Folder for RealFolder<R> {
@@ -136,14 +131,7 @@ impl<R: Files + Drop> Folder for RealFolder<R> {
                 self.handed = self.handed.saturating_add(count as u64);
                 Ok(count)
             }
-            Err(_) => {
-                self.faults = self.faults.saturating_add(1);
-                self.last = Some(Failure {
-                    file,
-                    operation: Operation::Read,
-                });
-                Err(OutFault::Failed)
-            }
+            Err(fault) => Err(self.refuse(fault.kind(), file, Operation::Read)),
         }
     }
 
@@ -155,16 +143,14 @@ impl<R: Files + Drop> Folder for RealFolder<R> {
         bytes: &[u8],
     ) -> Result<(), OutFault> {
         self.open = None;
-        match write_whole(&self.rt, name, bytes) {
+        let mut target = match fs::create(&self.rt, name) {
+            Ok(target) => target,
+            // Nothing was written yet.
+            Err(fault) => return Err(self.refuse(fault.kind(), file, Operation::Write)),
+        };
+        match write_all(&mut target, bytes) {
             Ok(()) => Ok(()),
-            Err(_) => {
-                self.faults = self.faults.saturating_add(1);
-                self.last = Some(Failure {
-                    file,
-                    operation: Operation::Write,
-                });
-                Err(OutFault::Failed)
-            }
+            Err(_) => Err(self.fail(file, Operation::Write)),
         }
     }
 }

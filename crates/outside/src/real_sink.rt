@@ -1,5 +1,6 @@
 use crate::file_id::OutFault;
 use crate::sink::Sink;
+use crate::whole::write_all;
 use std::alloc::Global;
 use std::io::{self, Write};
 
@@ -17,17 +18,10 @@ impl<R: Print + Drop> RealSink<R> {
     }
 }
 
-/// Writes all of the octets.
+/// Writes all of the octets to standard output.
 fn write_out<R: Print>(rt: &R, bytes: &[u8]) -> io::Result<()> {
     let mut out = io::writer(rt);
-    let mut written = 0;
-    while written < bytes.len() {
-        let count = out.write(&bytes[written..])?;
-        if count == 0 {
-            return Err(io::Error::from(io::ErrorKind::WriteZero));
-        }
-        written += count;
-    }
+    write_all(&mut out, bytes)?;
     out.flush()
 }
 

@@ -1,7 +1,7 @@
-ghost use Rattle.std.specs.Prelude.{◌≡◌, ◌≤◌, length, Some, None, OnOk, OnErr};
+ghost use Rattle.std.specs.Prelude.{◌≡◌, ◌≤◌, length, drop, Some, None, OnOk, OnErr};
 ghost use Rattle.std.specs.Ordering.{nat_cmp, is_eq};
 ghost use Rattle.std.specs.Cmp.Lexicographic.{slice_cmp};
-ghost use Rattle.outside.specs.Files.{IsPieceOf};
+ghost use Rattle.outside.specs.Files.{IsPieceOf, FillsOrEnds};
 
 use octets::{Bytes, Name, NoMemory};
 use std::alloc::Global;
@@ -76,10 +76,13 @@ fn is_named(stored: &Name, name: &str) -> bool
     )
 }
 
-/// Copies what a file holds from an offset on to the front of a buffer, and answers how many octets.
+/// Copies what a file holds from an offset on to the front of a buffer, as much as there is room for, and answers how
+/// many octets. What stands behind them in the buffer stays.
 pub fn copy_piece(content: &[u8], offset: u64, buf: &mut [u8]) -> usize
     ensures within { result ≤ length buf.old }
     ensures piece { IsPieceOf content.now offset result buf.new }
+    ensures fills { FillsOrEnds content.now offset result (length buf.old) }
+    ensures rest { drop result buf.new ≡ drop result buf.old }
 {
     let len = content.len();
     if offset >= len as u64 {

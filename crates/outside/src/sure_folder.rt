@@ -48,9 +48,10 @@ impl SureFolder {
 }
 
 impl Folder for SureFolder {
-    ghost use Rattle.std.specs.Prelude.{◌≡◌, ◌≤◌, length, Some, None, IfOk, IsOk};
+    ghost use Rattle.std.specs.Prelude.{◌≡◌, ◌≤◌, length, drop, Some, None, IfOk, IsOk};
+    ghost use Rattle.outside.specs.Files.{content_of, FillsOrEnds};
     ghost use Rattle.outside.specs.Seen.{ReadEnds};
-    ghost use Rattle.outside.specs.InMemory.{sure_seen};
+    ghost use Rattle.outside.specs.InMemory.{sure_files, sure_seen};
 
     ghost files = { λ s. Some s.store };
 
@@ -70,6 +71,9 @@ impl Folder for SureFolder {
     ) -> Result<usize, OutFault>
         ensures within { IfOk result (λ n. n ≤ length buf.old) }
         ensures ends { ReadEnds (sure_seen self.old) (sure_seen self.new) file name.now offset buf.new result }
+        // It fills the buffer or reaches the end of the file, and leaves the octets behind.
+        ensures fills { IfOk result (λ n. FillsOrEnds (content_of (sure_files self.old) name.now) offset n (length buf.old)) }
+        ensures rest { IfOk result (λ n. drop n buf.new ≡ drop n buf.old) }
         // It takes no memory either.
         ensures answers { IsOk result }
     {

@@ -1,5 +1,5 @@
 use Rattle.std.proofs.Common.{length, ◌-◌, ◌≤◌}
-use Rattle.outside.proofs.real_folder.fill.Given as goal
+use Rattle.outside.proofs.whole.fill.Given as goal
 
 abbrev pub invariant-loop-filled : goal.invariant-loop-filled
 invariant-loop-filled g l = l.filled ≤ length l.buf

@@ -1,5 +1,5 @@
 use Rattle.std.proofs.Common.{length, ◌-◌, ◌≤◌}
-use Rattle.outside.proofs.real_sink.write_out.Given as goal
+use Rattle.outside.proofs.whole.write_all.Given as goal
 
 abbrev pub invariant-loop-written : goal.invariant-loop-written
 invariant-loop-written g l = l.written ≤ length l.bytes
