@@ -13,6 +13,3 @@ pub use icmp4::Icmp4;
 pub use icmp6::Icmp6;
 pub use inner4::{Inner4, read_inner4};
 pub use inner6::{Inner6, read_inner6};
-
-#[cfg(test)]
-mod tests;

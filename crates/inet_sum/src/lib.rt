@@ -60,6 +60,3 @@ pub fn as_udp(sum: u16) -> u16
 {
     if sum == 0 { u16::MAX } else { sum }
 }
-
-#[cfg(test)]
-mod tests;

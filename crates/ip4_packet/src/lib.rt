@@ -13,6 +13,3 @@ mod read;
 pub use fault::is_no_destination;
 pub use head::Head4;
 pub use laws::{equal_headers_are_the_same, options_are_read_by_their_grammar};
-
-#[cfg(test)]
-mod tests;

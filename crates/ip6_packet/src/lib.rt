@@ -13,6 +13,3 @@ mod read;
 pub use fault::is_no_destination;
 pub use head::{Frag6, Head6};
 pub use laws::{chains_are_read_by_their_grammar, equal_headers_are_the_same};
-
-#[cfg(test)]
-mod tests;

@@ -85,6 +85,3 @@ pub fn set_l4(proto: Proto, payload: &mut [u8], ports: Ports, sum: u16)
         Proto::Icmp => icmp::set(payload, ports, sum),
     }
 }
-
-#[cfg(test)]
-mod tests;

@@ -42,6 +42,3 @@ pub use prefix_text::{read_prefix4, read_prefix6};
 pub use proto::Proto;
 pub use text4::{BadText, read_addr4};
 pub use text6::read_addr6;
-
-#[cfg(test)]
-mod tests;

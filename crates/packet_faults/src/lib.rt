@@ -11,6 +11,3 @@ pub use cut::cut6;
 pub use error4::fault4;
 pub use error6::fault6;
 pub use hop::{Causes, Hop, Out, Outs};
-
-#[cfg(test)]
-mod tests;

@@ -17,6 +17,3 @@ pub use laws::{followers_change_nothing, reading_is_by_the_grammar, written_is_r
 pub use reader::read;
 pub use records::{Record, Records};
 pub use writer::Writer;
-
-#[cfg(test)]
-mod tests;
