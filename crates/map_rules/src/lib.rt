@@ -15,6 +15,3 @@ pub use laws::{
     map_addresses_are_inside_the_rule, sources_are_told,
 };
 pub use rule::{EdgeId, Rule};
-
-#[cfg(test)]
-mod tests;

@@ -36,6 +36,3 @@ pub use laws::{
 pub use moves::{Changes, MoveLine};
 pub use script::{Script, ScriptItem};
 pub use setup::Setup;
-
-#[cfg(test)]
-mod tests;

@@ -12,6 +12,3 @@ pub use laws::{
     sets_are_disjoint, sets_cover_the_ports,
 };
 pub use port_set::{BadPorts, PortSet};
-
-#[cfg(test)]
-mod tests;

@@ -27,6 +27,3 @@ pub use laws::{
 pub use lines::{RuleParts, dmr_line};
 pub use owner::owner_line;
 pub use view::{FarOf, RuleView};
-
-#[cfg(test)]
-mod tests;

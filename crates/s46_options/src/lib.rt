@@ -29,6 +29,3 @@ pub use read::read_container;
 pub use subs::{Sub, Subs};
 pub use text::{offset_in, options_text};
 pub use write::write_container;
-
-#[cfg(test)]
-mod tests;

@@ -1,0 +1,23 @@
+//! Rows of the calls of port sets, mapping rules, rule books, options and configurations.
+#![tactic(auto)]
+
+mod books;
+mod calls;
+mod captures;
+mod containers;
+mod options;
+mod parts;
+mod rules;
+mod sets;
+mod setups;
+mod spelling;
+
+use calls::RuleCalls;
+use rows::compare_rows;
+use std::io;
+use std::process::ExitCode;
+
+fn main(rt: HostRuntime) -> io::Result<ExitCode> {
+    let mut calls = RuleCalls::new(rt.alloc());
+    compare_rows(&rt, &mut calls)
+}
