@@ -17,6 +17,3 @@ pub use laws::{a_translated_icmpv4_sum_is_right, a_translated_icmpv6_sum_is_righ
 pub use table::{Rest, Row};
 pub use to_icmp4::{answer64, embedded64, icmp64, translation64};
 pub use to_icmp6::{answer46, embedded46, icmp46, translation46};
-
-#[cfg(test)]
-mod tests;

@@ -11,6 +11,3 @@ mod turned;
 
 pub use laws::{a_right_sum_stays_right_when_turned, a_turned_icmp_sum_is_right};
 pub use turned::{turned_in, turned_out};
-
-#[cfg(test)]
-mod tests;

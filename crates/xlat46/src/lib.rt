@@ -8,6 +8,3 @@ mod whole;
 pub use head::head46;
 pub use laws::a_right_sum_stays_right_over_ipv6;
 pub use whole::{packet46, whole46};
-
-#[cfg(test)]
-mod tests;

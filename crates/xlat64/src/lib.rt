@@ -8,6 +8,3 @@ mod whole;
 pub use head::head64;
 pub use laws::a_right_sum_stays_right_over_ipv4;
 pub use whole::{packet64, whole64};
-
-#[cfg(test)]
-mod tests;

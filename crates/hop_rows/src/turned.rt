@@ -1,0 +1,48 @@
+//! Packets that an edge turns.
+
+use crate::sent::{say_fault, say_unmet, say_written};
+use packets::Packet4;
+use rows::{RowFault, Said, Words};
+use std::alloc::Global;
+use turned_packets::{turned_in, turned_out};
+
+/// `turned_out PACKET ADDRESS PORT`: the packet as it is sent, from there. It has a TTL that can be lowered.
+fn sent(alloc: Global, words: &mut Words<'_>, said: &mut Said) -> Result<(), RowFault> {
+    let octets = words.octets(alloc)?;
+    let from = words.addr4()?;
+    let port = words.sixteen()?;
+    match Packet4::read(alloc, octets.as_slice()) {
+        Ok(packet) => {
+            if packet.head.ttl == 0 {
+                return say_unmet(said);
+            }
+            let written = turned_out(alloc, &packet, octets.as_slice(), from, port);
+            say_written(said, written)
+        }
+        Err(fault) => say_fault(said, fault),
+    }
+}
+
+/// `turned_in PACKET ADDRESS PORT`: the packet as it is received, by that host and port.
+fn received(alloc: Global, words: &mut Words<'_>, said: &mut Said) -> Result<(), RowFault> {
+    let octets = words.octets(alloc)?;
+    let to = words.addr4()?;
+    let port = words.sixteen()?;
+    match Packet4::read(alloc, octets.as_slice()) {
+        Ok(packet) => say_written(said, turned_in(alloc, &packet, octets.as_slice(), to, port)),
+        Err(fault) => say_fault(said, fault),
+    }
+}
+
+/// Turns the packet.
+pub fn answer(
+    alloc: Global,
+    verb: &str,
+    words: &mut Words<'_>,
+    said: &mut Said,
+) -> Result<(), RowFault> {
+    match verb {
+        "turned_out" => sent(alloc, words, said),
+        _ => received(alloc, words, said),
+    }
+}
