@@ -10,8 +10,8 @@ use std::test::Fail;
 const STATUSES: [(Status, &str); 9] = [
     (Status::Done, "done [Done]"),
     (
-        Status::Usage(0),
-        "usage: mapt replay C P, mapt rules C G, mapt owner C G A X or mapt options F [Usage(0)]",
+        Status::Usage(300),
+        "usage: mapt replay C P, mapt rules C G, mapt owner C G A X or mapt options F [Usage(300)]",
     ),
     (
         Status::ReadFault(FileId::Config),
@@ -44,10 +44,10 @@ const STATUSES: [(Status, &str); 9] = [
 const FILES: [(FileId, &str); 11] = [
     (FileId::Config, "the configuration"),
     (FileId::Options, "the option file"),
-    (FileId::InLan(2), "the LAN capture of edge 2"),
+    (FileId::InLan(300), "the LAN capture of edge 300"),
     (FileId::InAccess, "the access network's capture"),
     (FileId::InCore, "the core's capture"),
-    (FileId::OutLan(2), "the written LAN capture of edge 2"),
+    (FileId::OutLan(300), "the written LAN capture of edge 300"),
     (
         FileId::OutAccess,
         "the written capture of the access network",
@@ -65,101 +65,101 @@ const FILES: [(FileId, &str); 11] = [
 const CAPTURE_FAULTS: [(CaptureFault, &str); 6] = [
     (CaptureFault::NotPcap, "not a pcap file"),
     (CaptureFault::BadVersion(2 * 65536 + 3), "pcap version 2.3"),
-    (CaptureFault::BadLink(113), "link type 113"),
-    (CaptureFault::Cut(3), "record 3 is incomplete"),
+    (CaptureFault::BadLink(70_000), "link type 70000"),
+    (CaptureFault::Cut(199_999), "record 199999 is incomplete"),
     (CaptureFault::TooManyRecords, "too many records"),
     (CaptureFault::NoMemory, "out of memory"),
 ];
 
-/// Each cause for which a configuration or an option file is refused, at place 1.
+/// Each cause for which a configuration or an option file is refused, at a place past 65,535, so that none is cut short.
 const SETUP_CAUSES: [(SetupCause, &str); 22] = [
     (
         SetupCause::NotToml,
-        "refused: the configuration is no TOML [SetupRefused(NotToml, 1)]",
+        "refused: the configuration is no TOML [SetupRefused(NotToml, 70000)]",
     ),
     (
         SetupCause::TooMany,
-        "refused: the configuration has too many tables of a kind [SetupRefused(TooMany, 1)]",
+        "refused: the configuration has too many tables of a kind [SetupRefused(TooMany, 70000)]",
     ),
     (
         SetupCause::BadDomain,
-        "refused: the domain of the configuration, or a name at its top, is not as it should be [SetupRefused(BadDomain, 1)]",
+        "refused: the domain of the configuration, or a name at its top, is not as it should be [SetupRefused(BadDomain, 70000)]",
     ),
     (
         SetupCause::BadRule,
-        "refused: rule 1 is not as it should be [SetupRefused(BadRule, 1)]",
+        "refused: rule 70000 is not as it should be [SetupRefused(BadRule, 70000)]",
     ),
     (
         SetupCause::BadEdge,
-        "refused: edge 1 is not as it should be [SetupRefused(BadEdge, 1)]",
+        "refused: edge 70000 is not as it should be [SetupRefused(BadEdge, 70000)]",
     ),
     (
         SetupCause::BadForward,
-        "refused: forward 1 is not as it should be [SetupRefused(BadForward, 1)]",
+        "refused: forward 70000 is not as it should be [SetupRefused(BadForward, 70000)]",
     ),
     (
         SetupCause::BadChange,
-        "refused: change 1 is not as it should be [SetupRefused(BadChange, 1)]",
+        "refused: change 70000 is not as it should be [SetupRefused(BadChange, 70000)]",
     ),
     (
         SetupCause::BadHex,
-        "refused: the options are no hexadecimal octets from character 1 on [SetupRefused(BadHex, 1)]",
+        "refused: the options are no hexadecimal octets from character 70000 on [SetupRefused(BadHex, 70000)]",
     ),
     (
         SetupCause::BadContainer,
-        "refused: the options are no container that is accepted, by octet 1 [SetupRefused(BadContainer, 1)]",
+        "refused: the options are no container that is accepted, by octet 70000 [SetupRefused(BadContainer, 70000)]",
     ),
     (
         SetupCause::RuleShape,
-        "refused: the lengths and the offset of rule 1 do not go together [SetupRefused(RuleShape, 1)]",
+        "refused: the lengths and the offset of rule 70000 do not go together [SetupRefused(RuleShape, 70000)]",
     ),
     (
         SetupCause::Overlap4,
-        "refused: the IPv4 prefix of rule 1 overlaps that of an earlier rule [SetupRefused(Overlap4, 1)]",
+        "refused: the IPv4 prefix of rule 70000 overlaps that of an earlier rule [SetupRefused(Overlap4, 70000)]",
     ),
     (
         SetupCause::Overlap6,
-        "refused: the IPv6 prefix of rule 1 overlaps that of an earlier rule [SetupRefused(Overlap6, 1)]",
+        "refused: the IPv6 prefix of rule 70000 overlaps that of an earlier rule [SetupRefused(Overlap6, 70000)]",
     ),
     (
         SetupCause::OverlapDmr,
-        "refused: the IPv6 prefix of rule 1 overlaps that of the default mapping rule [SetupRefused(OverlapDmr, 1)]",
+        "refused: the IPv6 prefix of rule 70000 overlaps that of the default mapping rule [SetupRefused(OverlapDmr, 70000)]",
     ),
     (
         SetupCause::EdgeName,
-        "refused: edge 1 has the name of an earlier edge [SetupRefused(EdgeName, 1)]",
+        "refused: edge 70000 has the name of an earlier edge [SetupRefused(EdgeName, 70000)]",
     ),
     (
         SetupCause::EdgeOverlap,
-        "refused: the prefix of edge 1 is longer than 64 bits or overlaps that of an earlier edge [SetupRefused(EdgeOverlap, 1)]",
+        "refused: the prefix of edge 70000 is longer than 64 bits or overlaps that of an earlier edge [SetupRefused(EdgeOverlap, 70000)]",
     ),
     (
         SetupCause::EdgeOverDmr,
-        "refused: the prefix of edge 1 overlaps that of the default mapping rule [SetupRefused(EdgeOverDmr, 1)]",
+        "refused: the prefix of edge 70000 overlaps that of the default mapping rule [SetupRefused(EdgeOverDmr, 70000)]",
     ),
     (
         SetupCause::ForwardEdge,
-        "refused: forward 1 names no edge [SetupRefused(ForwardEdge, 1)]",
+        "refused: forward 70000 names no edge [SetupRefused(ForwardEdge, 70000)]",
     ),
     (
         SetupCause::ForwardPort,
-        "refused: the port of forward 1 is not claimable at its edge [SetupRefused(ForwardPort, 1)]",
+        "refused: the port of forward 70000 is not claimable at its edge [SetupRefused(ForwardPort, 70000)]",
     ),
     (
         SetupCause::ForwardTwice,
-        "refused: forward 1 has the port or the host end of an earlier forward [SetupRefused(ForwardTwice, 1)]",
+        "refused: forward 70000 has the port or the host end of an earlier forward [SetupRefused(ForwardTwice, 70000)]",
     ),
     (
         SetupCause::ChangeOrder,
-        "refused: change 1 comes before the one that is listed before it [SetupRefused(ChangeOrder, 1)]",
+        "refused: change 70000 comes before the one that is listed before it [SetupRefused(ChangeOrder, 70000)]",
     ),
     (
         SetupCause::ChangeRefused,
-        "refused: the rules refuse change 1 [SetupRefused(ChangeRefused, 1)]",
+        "refused: the rules refuse change 70000 [SetupRefused(ChangeRefused, 70000)]",
     ),
     (
         SetupCause::NoGeneration,
-        "refused: the configuration has no generation 1 [SetupRefused(NoGeneration, 1)]",
+        "refused: the configuration has no generation 70000 [SetupRefused(NoGeneration, 70000)]",
     ),
 ];
 
@@ -177,7 +177,9 @@ fn fault_lines(rt: HostRuntime) -> Result<(), Fail> {
     }
     for (cause, line) in SETUP_CAUSES {
         assert_eq!(rt;
-            Status::SetupRefused(cause, 1).to_string(alloc)?.as_str(),
+            Status::SetupRefused(cause, 70_000)
+                .to_string(alloc)?
+                .as_str(),
             line
         );
     }
