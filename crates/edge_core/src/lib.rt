@@ -10,6 +10,3 @@ mod stripe;
 pub use edge::EdgeState;
 pub use nat_model::StripeEntry;
 pub use stripe::StripeState;
-
-#[cfg(test)]
-mod tests;

@@ -20,6 +20,3 @@ pub use key::FragKey;
 pub use laws::notes_keep_their_bounds;
 pub use note::Note;
 pub use table::FragTable;
-
-#[cfg(test)]
-mod tests;

@@ -153,8 +153,3 @@ bound_as-sound h clock wish change bs None keeps sound e = claimed-sound h clock
 pub bound-sound : (h : Holder) (clock : ℕ) (wish : Wish) (change : Binding → Binding) (bs : List Binding) → KeepsEnds change → AreSound (Some h) bs → SoundBound h (bound h clock wish change bs)
 unfolding bound
 bound-sound h clock wish change bs keeps sound = bound_as-sound h clock wish change bs (find (is_of_host wish.proto wish.near) bs) keeps sound refl
-
--- no bindings are sound
-pub none-sound : (o : Option Holder) → AreSound o []
-none-sound None = record { apart = λ i j d lt within. absurd (omega arith); claimable = refl }
-none-sound (Some h) = record { apart = λ i j d lt within. absurd (omega arith); claimable = λ k d lt. absurd (omega arith) }

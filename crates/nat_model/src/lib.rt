@@ -30,6 +30,3 @@ pub use laws::{
 };
 pub use machine::Machine;
 pub use stripe::StripeEntry;
-
-#[cfg(test)]
-mod tests;
