@@ -4,14 +4,10 @@ use octets::{Addr6, bits_of, is_wrong_fragment, quad_at, sixteen_at, word_at};
 use rows::{RowFault, Said, Words};
 use std::alloc::Global;
 
-fn place(words: &mut Words<'_>) -> Result<usize, RowFault> {
-    Ok(usize::from(words.sixteen()?))
-}
-
 fn word(alloc: Global, words: &mut Words<'_>, said: &mut Said) -> Result<(), RowFault> {
     let octets = words.octets(alloc)?;
     let octets = octets.as_slice();
-    let at = place(words)?;
+    let at = usize::from(words.sixteen()?);
     if octets.len() < at + 2 {
         return said.word("unmet");
     }
@@ -21,7 +17,7 @@ fn word(alloc: Global, words: &mut Words<'_>, said: &mut Said) -> Result<(), Row
 fn quad(alloc: Global, words: &mut Words<'_>, said: &mut Said) -> Result<(), RowFault> {
     let octets = words.octets(alloc)?;
     let octets = octets.as_slice();
-    let at = place(words)?;
+    let at = usize::from(words.sixteen()?);
     if octets.len() < at + 4 {
         return said.word("unmet");
     }
@@ -31,7 +27,7 @@ fn quad(alloc: Global, words: &mut Words<'_>, said: &mut Said) -> Result<(), Row
 fn sixteen(alloc: Global, words: &mut Words<'_>, said: &mut Said) -> Result<(), RowFault> {
     let octets = words.octets(alloc)?;
     let octets = octets.as_slice();
-    let at = place(words)?;
+    let at = usize::from(words.sixteen()?);
     if octets.len() < at + 16 {
         return said.word("unmet");
     }
