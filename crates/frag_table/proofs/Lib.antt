@@ -2,3 +2,4 @@ pub mod Keys
 pub mod LiveNotes
 pub mod EachRow
 pub mod WithinBounds
+pub mod AnswerKinds
