@@ -10,3 +10,4 @@ pub mod WholeSteps
 pub mod Others
 pub mod FirstTests
 pub mod NoPort
+pub mod AnswerKinds

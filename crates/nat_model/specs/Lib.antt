@@ -13,3 +13,4 @@ pub mod History
 pub mod Waiting
 pub mod Run
 pub mod Refusal
+pub mod Kind

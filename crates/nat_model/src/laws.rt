@@ -1,12 +1,13 @@
-ghost use Rattle.std.specs.Prelude.{◌≡◌, ℕ, ◌<◌, ◌↔◌, IsTrue, Bool, false, List, Some, None};
+ghost use Rattle.std.specs.Prelude.{◌≡◌, ℕ, ◌<◌, ◌↔◌, IsTrue, Bool, false, List, [], Some, None};
 ghost use Rattle.std.specs.List.{Any, find};
 ghost use Rattle.octets.specs.declared.address.Addr4.{Addr4};
+ghost use Rattle.octets.specs.declared.cause.Cause.{Cause};
 ghost use Rattle.octets.specs.declared.cause.Cause.TheVariants.{NoBasicRule, NoPort, WrongDestination};
 ghost use Rattle.octets.specs.declared.parcel.Parcel.{Parcel};
 ghost use Rattle.octets.specs.declared.prefix.Prefix6.{Prefix6};
 ghost use Rattle.octets.specs.declared.proto.Proto.{Proto};
 ghost use Rattle.rule_book.specs.Holder.{Holder};
-ghost use Rattle.nat_model.specs.declared.answer.Answer.TheVariants.{In};
+ghost use Rattle.nat_model.specs.declared.answer.Answer.TheVariants.{In, Held};
 ghost use Rattle.nat_model.specs.declared.ask.Ask.{Ask};
 ghost use Rattle.nat_model.specs.declared.ask.Ask.TheVariants.{Inward, Outward};
 ghost use Rattle.nat_model.specs.declared.ask.End4.{End4};
@@ -16,11 +17,14 @@ ghost use Rattle.nat_model.specs.declared.binding.Binding.{Binding};
 ghost use Rattle.nat_model.specs.declared.claim.Wish.{Wish};
 ghost use Rattle.nat_model.specs.Binding.{is_of_host, is_of_port};
 ghost use Rattle.nat_model.specs.Claim.{claimed_port};
+ghost use Rattle.nat_model.specs.Fragment.{part_of};
+ghost use Rattle.nat_model.specs.Kind.{IsAnswerTo, IsFirst, IsLater, MayRefuse};
 ghost use Rattle.nat_model.specs.State.{NatState, Moment, holder_at};
 ghost use Rattle.nat_model.specs.Machine.{nat, arrives};
 ghost use Rattle.nat_model.specs.Refusal.{cause_in, proto_of, settled, of_others, IsFull};
 ghost use Rattle.nat_model.specs.Run.{Asked, state_after};
 ghost use Rattle.nat_model.specs.Sound.{IsSound};
+ghost use Rattle.nat_model.specs.Waiting.{freed_of};
 
 /// Law: after any asks, two bindings of one protocol never share an outside port or a host end, and the holder may
 /// claim the port of each, where this holds at the start.
@@ -73,4 +77,19 @@ pub fn a_flow_finds_no_port_exactly_where_all_are_bound()
         → near.port < 65536
         → cause_in (nat prefix s m (Outward false proto near far flags Whole)).answer ≡ Some NoPort
         ↔ ((find (is_of_host proto near) (settled prefix s m).bindings ≡ None) × IsFull h proto (settled prefix s m).bindings) }
+{}
+
+/// Law: whatever the state and the moment are, each ask has an answer of its kind, and is refused for a cause that such an
+/// ask may have. Only a later fragment waits, and only a first one frees.
+pub fn each_ask_has_an_answer_of_its_kind()
+    ensures kind { (prefix : Prefix6) (s : NatState) (m : Moment) (ask : Ask) → IsAnswerTo ask (nat prefix s m ask).answer }
+    ensures cause { (prefix : Prefix6) (s : NatState) (m : Moment) (ask : Ask) (cause : Cause)
+        → cause_in (nat prefix s m ask).answer ≡ Some cause
+        → MayRefuse cause ask }
+    ensures held { (prefix : Prefix6) (s : NatState) (m : Moment) (ask : Ask)
+        → (nat prefix s m ask).answer ≡ Held
+        → IsLater (part_of ask) }
+    ensures freed { (prefix : Prefix6) (s : NatState) (m : Moment) (ask : Ask)
+        → ¬ (freed_of (nat prefix s m ask).answer ≡ [])
+        → IsFirst (part_of ask) }
 {}
