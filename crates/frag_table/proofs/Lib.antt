@@ -3,3 +3,4 @@ pub mod LiveNotes
 pub mod EachRow
 pub mod WithinBounds
 pub mod AnswerKinds
+pub mod HeldParcels

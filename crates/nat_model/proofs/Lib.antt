@@ -11,3 +11,5 @@ pub mod Others
 pub mod FirstTests
 pub mod NoPort
 pub mod AnswerKinds
+pub mod NotesAfter
+pub mod ParcelHistory

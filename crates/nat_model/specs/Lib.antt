@@ -14,3 +14,4 @@ pub mod Waiting
 pub mod Run
 pub mod Refusal
 pub mod Kind
+pub mod Parcels

@@ -13,6 +13,7 @@ mod fragment;
 mod kind;
 mod laws;
 mod machine;
+mod parcels;
 mod remote;
 mod stay;
 mod steps;
@@ -32,6 +33,7 @@ pub use laws::{
     what_comes_in_goes_to_the_binding_with_its_port,
 };
 pub use machine::Machine;
+pub use parcels::{a_fragment_is_freed_once, a_freed_parcel_is_a_fragment_that_waited};
 pub use stripe::StripeEntry;
 
 #[cfg(test)]
