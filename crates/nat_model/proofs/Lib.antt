@@ -13,3 +13,4 @@ pub mod NoPort
 pub mod AnswerKinds
 pub mod NotesAfter
 pub mod ParcelHistory
+pub mod Delivery

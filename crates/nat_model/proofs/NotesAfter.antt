@@ -1,6 +1,6 @@
 -- What a step of the machine makes of its notes on fragments: nothing, and then it frees nothing, or what the fragment machine
 -- makes of them.
-use Rattle.std.proofs.Common.{◌≡◌, ℕ, max, Bool, true, false, cond, List, [], Option, Some, None, Result, Ok, Err, refl, sym, ap, ◌∙◌, inl, inr, ◌⊎◌, ⊎_elim}
+use Rattle.std.proofs.Common.{◌≡◌, ℕ, max, Bool, true, false, cond, List, [], Option, Some, None, Result, Ok, Err, refl, ap, inl, inr, ◌⊎◌, ⊎_elim}
 use Rattle.std.specs.Prelude.{nat_lt}
 use Rattle.std.specs.List.{find}
 use Rattle.std.proofs.lemmas.Bool.{cond_both}
@@ -14,7 +14,6 @@ use Rattle.frag_table.specs.declared.note.Note.{Note}
 use Rattle.frag_table.specs.declared.ask.FragAsk.{FragAsk}
 use Rattle.frag_table.specs.declared.answer.FragAnswer.{FragAnswer}
 use Rattle.frag_table.specs.declared.answer.FragAnswer.TheVariants.{Noted, Known, Held, Released, Full}
-use Rattle.frag_table.specs.State.{FragState}
 use Rattle.frag_table.specs.Frag.{frag, FragStep, freed_by}
 use Rattle.nat_model.specs.declared.answer.Answer.{Answer}
 use Rattle.nat_model.specs.declared.answer.Answer.TheVariants.{Held as HeldBack}
@@ -29,7 +28,7 @@ use Rattle.nat_model.specs.Binding.{is_of_host, is_of_port, refreshed, kept_unti
 use Rattle.nat_model.specs.Claim.{Bound, bound}
 use Rattle.nat_model.specs.Fragment.{ports_of, part_of, frag_ask_of}
 use Rattle.nat_model.specs.Remote.{remote}
-use Rattle.nat_model.specs.State.{Generation, NatState, NatStep, Moment, holder_at}
+use Rattle.nat_model.specs.State.{NatState, NatStep, Moment, holder_at}
 use Rattle.nat_model.specs.Machine.{refuses, arrives, sent_by, sent_flow, sent_error, sent_error_by, received, received_by, with_entry, kept_by, keeps, received_from, passed, told, gathered, held_by, at_time, staying, renewed, timed, nat}
 use Rattle.nat_model.specs.Waiting.{freed_of, FreesAtMost}
 use Rattle.nat_model.proofs.Freed.{passed-frees, told-frees}

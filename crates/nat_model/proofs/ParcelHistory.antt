@@ -1,7 +1,6 @@
 -- Parcels in a history: each that is freed has waited, and none is freed twice.
-use Rattle.std.proofs.Common.{◌≡◌, ℕ, zero, suc, ◌+◌, ◌<◌, ◌≤◌, max, Bool, true, false, cond, IsTrue, List, [], ◌∷◌, Option, Some, None, refl, sym, ap, ◌∙◌, subst, arith, inl, inr, ◌⊎◌, ⊎_elim, zero-add}
+use Rattle.std.proofs.Common.{◌≡◌, ℕ, zero, suc, ◌+◌, ◌<◌, ◌≤◌, Bool, true, false, cond, IsTrue, List, [], ◌∷◌, Some, None, refl, sym, ap, ◌∙◌, subst, arith, inl, inr, ◌⊎◌, ⊎_elim, zero-add}
 use Rattle.std.specs.Prelude.{◌==◌, slice_get}
-use Rattle.std.specs.List.{AllByRecursion}
 use Rattle.std.proofs.lemmas.Bool.{eq-eqb, eqb-true}
 use Rattle.octets.specs.declared.parcel.Parcel.{Parcel}
 use Rattle.octets.specs.declared.prefix.Prefix6.{Prefix6}
@@ -11,12 +10,10 @@ use Rattle.frag_table.specs.declared.note.Note.{Note}
 use Rattle.frag_table.specs.declared.ask.FragAsk.{FragAsk}
 use Rattle.frag_table.specs.declared.ask.FragAsk.TheVariants.{First as FirstAsk, Later as LaterAsk}
 use Rattle.frag_table.specs.declared.answer.FragAnswer.{FragAnswer}
-use Rattle.frag_table.specs.declared.answer.FragAnswer.TheVariants.{Noted, Known, Held as HeldBack, Released, Full}
 use Rattle.frag_table.specs.State.{FragState}
-use Rattle.frag_table.specs.Frag.{frag, FragStep, freed_by}
-use Rattle.frag_table.specs.Kind.{IsFragAnswerTo}
+use Rattle.frag_table.specs.Frag.{frag, freed_by}
 use Rattle.frag_table.proofs.AnswerKinds.{frag-kind}
-use Rattle.frag_table.proofs.HeldParcels.{WaitsAs, HasWaited as WaitedUnder, HaveWaited, NotesHold, notes-later, frag-hold, frag-releases, times, times_held, frag-counted}
+use Rattle.frag_table.proofs.HeldParcels.{HasWaited as WaitedUnder, HaveWaited, NotesHold, notes-later, frag-hold, frag-releases, times, times_held, frag-counted}
 use Rattle.nat_model.specs.declared.answer.Answer.{Answer}
 use Rattle.nat_model.specs.declared.ask.Part.{Part}
 use Rattle.nat_model.specs.declared.ask.Part.TheVariants.{Whole, First, Later}
@@ -26,7 +23,7 @@ use Rattle.nat_model.specs.Fragment.{ports_of, part_of, frag_ask_of}
 use Rattle.nat_model.specs.History.{EdgeStart, Reached, outset, entry_step, further, AreGoodFrom, IsGood}
 use Rattle.nat_model.specs.Machine.{nat}
 use Rattle.nat_model.specs.Parcels.{Log, edge_log, stripe_log, part_in, waits_by, is_held, Frees, HasWaited}
-use Rattle.nat_model.specs.State.{Generation, NatState, NatStep, Moment}
+use Rattle.nat_model.specs.State.{Generation, NatStep}
 use Rattle.nat_model.specs.Stripe.{no_notes, stripe_step, AreStripeStepsFrom, IsGoodStripe}
 use Rattle.nat_model.specs.Waiting.{freed_of, FreesAtMost}
 use Rattle.nat_model.proofs.AnswerKinds.{freed-first}

@@ -15,3 +15,4 @@ pub mod Run
 pub mod Refusal
 pub mod Kind
 pub mod Parcels
+pub mod Delivered
