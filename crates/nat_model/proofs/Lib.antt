@@ -14,3 +14,4 @@ pub mod AnswerKinds
 pub mod NotesAfter
 pub mod ParcelHistory
 pub mod Delivery
+pub mod Computed
