@@ -1,17 +1,19 @@
 -- One more entry of an edge's history.
-use Rattle.std.proofs.Common.{◌≡◌, ℕ, suc, ◌+◌, ◌<◌, ◌≤◌, Bool, true, false, List, [], ◌∷◌, ◌++◌, length, max, Option, Some, None, cond, is_some, refl, sym, ap, subst, ◌∙◌, add-zero, arith}
+use Rattle.std.proofs.Common.{◌≡◌, ℕ, suc, ◌+◌, ◌<◌, ◌≤◌, List, [], ◌∷◌, ◌++◌, length, max, Option, Some, None, cond, is_some, refl, sym, ap, subst, ◌∙◌, add-zero, arith}
 use Rattle.std.proofs.lemmas.List.{append-nil, map-append}
-use Rattle.std.specs.Prelude.{nat_lt, unwrap_or}
+use Rattle.std.specs.Prelude.{unwrap_or}
 use Rattle.std.specs.Option.{IsSome, MatchOption, option_to_list, option_map}
 use Rattle.std.proofs.lemmas.Bool.{le-ltb, eq-eqb}
 use Rattle.std.proofs.lemmas.List.Elements.{All-cons, All-nil}
 use Rattle.octets.specs.declared.prefix.Prefix6.{Prefix6}
 use Rattle.nat_model.specs.declared.ask.Ask.{Ask}
 use Rattle.nat_model.specs.declared.entry.Entry.{Entry}
-use Rattle.nat_model.specs.State.{Generation, NatState, NatStep, Moment, generation_in}
+use Rattle.nat_model.specs.State.{Generation, NatState, NatStep, generation_in}
 use Rattle.nat_model.specs.Machine.{nat, renewed}
 use Rattle.nat_model.specs.History.{EdgeStart, Reached, outset, book_of, entry_step, further, replay_from, replay, IsGoodEntry, AreGoodFrom, IsGood}
 use Rattle.rule_book.specs.declared.book.Book.{Book}
+use Rattle.nat_model.specs.Sound.{IsSound}
+use Rattle.edge_core.specs.Shown.{EdgeShown, KeepsEdge}
 use Rattle.edge_core.specs.Used.{AreUsed, used_books}
 use Rattle.edge_core.proofs.Books.{book_of-more, book_of-number, book_of-newest, AreUsed-newest}
 
@@ -159,3 +161,14 @@ used_books-more first later (Some book) = ap (λ bs. generation_in first ∷ bs)
 pub newer-in : (newer : Option Book) (view : Generation) (used : ℕ) → MatchOption newer (view.number ≤ used) (λ book. (used < view.number) × (generation_in book ≡ view)) → MatchOption (option_map generation_in newer) (view.number ≤ used) (λ g. (used < view.number) × (g ≡ view))
 newer-in None view used is = is
 newer-in (Some book) view used is = is
+
+-- what an edge keeps, by the greatest generation that it used
+pub edge-kept : (start : EdgeStart) (books : List Generation) (used : ℕ) (state : NatState) (entries : List Entry) → IsKept start books used state entries → IsSound start.prefix state → state.book.number ≡ used → KeepsEdge (record { start = start; books = books; state = state; history = entries })
+edge-kept start books used state entries kept sound number =
+    let P : ℕ → Type 0 = λ n. AreUsed books n in
+    record { good = kept.good; replays = kept.replays; sound = sound; are_used = subst P (sym number) kept.are_used; latest = number ∙ kept.latest }
+
+pub kept-edge : (e : EdgeShown) (used : ℕ) → KeepsEdge e → e.state.book.number ≡ used → IsKept e.start e.books used e.state e.history
+kept-edge e used keeps number =
+    let P : ℕ → Type 0 = λ n. AreUsed e.books n in
+    record { good = keeps.good; replays = keeps.replays; latest = sym number ∙ keeps.latest; are_used = subst P number keeps.are_used }
