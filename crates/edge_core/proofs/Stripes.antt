@@ -1,5 +1,5 @@
 -- One more entry of a stripe's history.
-use Rattle.std.proofs.Common.{◌≡◌, ℕ, suc, ◌+◌, List, [], ◌∷◌, ◌++◌, length, refl, sym, ap, ◌∙◌, add-zero, arith}
+use Rattle.std.proofs.Common.{◌≡◌, ℕ, suc, ◌+◌, List, [], ◌∷◌, ◌++◌, length, sym, ap, ◌∙◌, add-zero, arith}
 use Rattle.frag_table.specs.State.{FragState}
 use Rattle.frag_table.specs.Frag.{FragStep, frag}
 use Rattle.nat_model.specs.declared.stripe.StripeEntry.{StripeEntry}

@@ -1,4 +1,4 @@
-pub mod Stripe
 pub mod Used
-pub mod Sound
+pub mod Shown
 pub mod Edge
+pub mod Stripe

@@ -1,10 +1,8 @@
 ghost use Rattle.std.specs.Prelude.{◌≡◌, ◌<◌, ◌^◌, max, nat_lt, length, [], ◌∷◌, ◌++◌, if◌then◌else◌, IfOk, OnOk, OnErr};
 ghost use Rattle.rule_book.specs.Holder.{holder_of};
 ghost use Rattle.nat_model.specs.Machine.{nat};
-ghost use Rattle.nat_model.specs.Sound.{AreSound, IsSound};
-ghost use Rattle.nat_model.specs.History.{replay, replay_from, outset, IsGood, IsGood-prop};
-ghost use Rattle.edge_core.specs.Used.{started, used_books, AreUsed};
-ghost use Rattle.edge_core.specs.Sound.{IsSound-prop};
+ghost use Rattle.nat_model.specs.Sound.{AreSound};
+ghost use Rattle.edge_core.specs.Shown.{KeepsEdge};
 
 use crate::newer::{keep, newer};
 use crate::noted::noted;
@@ -12,10 +10,11 @@ use nat_model::{Answer, Ask, Binding, Bindings, Entry, Machine, Mark, Who};
 use octets::{NoMemory, Prefix6};
 use rule_book::{Book, RuleView};
 use std::alloc::Global;
+use std::marker::Model;
 
-/// The NAPT44 of one edge with its history. The value keeps its prefix, its first rules, the bindings that it kept
-/// from the start, and the rules of each generation that it used. Its history is good over these: each answer in it
-/// is the machine's after the entries before it. Replaying it gives the state.
+/// The NAPT44 of one edge with its history. A contract sees where it began, the rules of each generation that it used, its
+/// state and its history. The history is good over these: each answer in it is the machine's after the entries before it.
+/// Replaying it gives the state.
 #[derive(Drop)]
 pub struct EdgeState {
     prefix: Prefix6,
@@ -28,19 +27,21 @@ pub struct EdgeState {
     machine: Machine,
     entries: Vec<Entry>,
     alloc: Global,
-    pub ghost good: { IsGood (started prefix first kept) (used_books first later.items) entries.items } by { IsGood-prop (started prefix first kept) (used_books first later.items) entries.items },
-    pub ghost replays: { machine.state ≡ replay (started prefix first kept) (used_books first later.items) entries.items },
-    pub ghost sound: { IsSound prefix machine.state } by { IsSound-prop prefix machine.state },
-    pub ghost are_used: { AreUsed (used_books first later.items) used },
-    pub ghost latest: { used ≡ (replay_from prefix (used_books first later.items) (outset (started prefix first kept)) entries.items).used },
-    pub ghost generation: { machine.state.book.number ≡ used },
-    pub ghost machine_prefix: { machine.prefix ≡ prefix },
-    pub ghost counted: { machine.steps ≡ length entries.items },
+}
+
+impl Model for EdgeState {
+    ghost use Rattle.edge_core.specs.Shown.{EdgeShown};
+
+    ghost Value = { EdgeShown };
+
+    ghost use Rattle.edge_core.specs.Edge.{edge_in, IsEdge};
+
+    ghost view = { edge_in };
+
+    ghost invariant = { IsEdge };
 }
 
 impl EdgeState {
-    ghost use Rattle.edge_core.specs.Edge.{start_of, books_of, state_of, edge_history, SameEdge};
-
     /// The edge with this prefix under the view's rules, at time 0, with no history. `kept` are the bindings that it
     /// has from the start: the edge may claim their ports, and those of one protocol have different ports and
     /// different host ends.
@@ -51,14 +52,15 @@ impl EdgeState {
         kept: &[Binding],
     ) -> Result<EdgeState, NoMemory>
         requires { AreSound (holder_of (V.rules view.now) prefix) kept.now }
-        ensures start { IfOk result (λ edge. start_of edge ≡ record {
+        ensures start { IfOk result (λ edge. edge.start ≡ record {
           prefix = prefix;
           book = record { rules = V.rules view.now; dmr = V.default_rule view.now; number = V.number view.now };
           kept = kept.now;
         }) }
-        ensures books { IfOk result (λ edge. books_of edge
+        ensures books { IfOk result (λ edge. edge.books
             ≡ record { rules = V.rules view.now; dmr = V.default_rule view.now; number = V.number view.now } ∷ []) }
-        ensures history { IfOk result (λ edge. edge_history edge ≡ []) }
+        ensures history { IfOk result (λ edge. edge.history ≡ []) }
+        ensures keeps { IfOk result KeepsEdge }
     {
         Ok(EdgeState {
             prefix,
@@ -83,26 +85,27 @@ impl EdgeState {
         ask: &Ask,
     ) -> Result<Answer, NoMemory>
         requires { now < 2 ^ 63 }
-        ensures answer { IfOk result (λ answer. answer ≡ (nat (start_of self.old).prefix (state_of self.old) (record {
+        ensures answer { IfOk result (λ answer. answer ≡ (nat self.old.start.prefix self.old.state (record {
           seen = record { rules = V.rules view.now; dmr = V.default_rule view.now; number = V.number view.now };
           now = now;
-          place = length (edge_history self.old);
+          place = length self.old.history;
         }) ask.now).answer) }
-        ensures state { OnOk result (state_of self.new ≡ (nat (start_of self.old).prefix (state_of self.old) (record {
+        ensures state { OnOk result (self.new.state ≡ (nat self.old.start.prefix self.old.state (record {
           seen = record { rules = V.rules view.now; dmr = V.default_rule view.now; number = V.number view.now };
           now = now;
-          place = length (edge_history self.old);
+          place = length self.old.history;
         }) ask.now).after) }
-        ensures history { IfOk result (λ answer. edge_history self.new ≡ edge_history self.old ++ record {
-          mark = record { who = who; seen = V.number view.now; used = max (V.number view.now) (state_of self.old).book.number };
+        ensures history { IfOk result (λ answer. self.new.history ≡ self.old.history ++ record {
+          mark = record { who = who; seen = V.number view.now; used = max (V.number view.now) self.old.state.book.number };
           now = now;
           ask = ask.now;
           answer = answer;
         } ∷ []) }
-        ensures start { start_of self.new ≡ start_of self.old }
-        ensures books { OnOk result (books_of self.new ≡ books_of self.old ++ (if nat_lt (state_of self.old).book.number (V.number view.now)
+        ensures start { self.new.start ≡ self.old.start }
+        ensures books { OnOk result (self.new.books ≡ self.old.books ++ (if nat_lt self.old.state.book.number (V.number view.now)
             then record { rules = V.rules view.now; dmr = V.default_rule view.now; number = V.number view.now } ∷ [] else [])) }
-        ensures err { OnErr result (SameEdge self.new self.old) }
+        ensures keeps { KeepsEdge self.new }
+        ensures err { OnErr result (self.new ≡ self.old) }
     {
         let freed = self.machine.waiting(now, ask)?;
         let asked = ask.copy(self.alloc)?;
@@ -123,9 +126,10 @@ impl EdgeState {
         Ok(answer)
     }
 
-    /// The steps so far, in their order.
+    /// The steps so far, in their order: a good history, whose replay is the state.
     pub fn history(&self) -> &[Entry]
-        ensures { result.now ≡ edge_history self.now }
+        ensures history { result.now ≡ self.now.history }
+        ensures keeps { KeepsEdge self.now }
     {
         &self.entries
     }

@@ -1,29 +1,39 @@
 ghost use Rattle.std.specs.Prelude.{◌≡◌, ◌<◌, ◌^◌, length, [], ◌∷◌, ◌++◌, IfOk, OnOk, OnErr};
 ghost use Rattle.frag_table.specs.Frag.{frag, freed_by};
-ghost use Rattle.nat_model.specs.Stripe.{stripe_replay, IsGoodStripe, IsGoodStripe-prop};
+ghost use Rattle.edge_core.specs.Shown.{KeepsStripe};
 
 use frag_table::{FragAnswer, FragAsk, FragTable};
 use nat_model::{StripeEntry, Who};
 use octets::{NoMemory, Parcels};
 use std::alloc::Global;
+use std::marker::Model;
 
-/// A stripe of the relay's fragment notes, with its history. The history is good: each answer in it is the
-/// fragment machine's after the entries before it. Replaying it gives the notes.
+/// A stripe of the relay's fragment notes, with its history. A contract sees both. The history is good: each answer in it is
+/// the fragment machine's after the entries before it. Replaying it gives the notes.
 #[derive(Drop)]
 pub struct StripeState {
     table: FragTable,
     entries: Vec<StripeEntry>,
     alloc: Global,
-    pub ghost good: { IsGoodStripe entries.items } by { IsGoodStripe-prop entries.items },
-    pub ghost replays: { table ≡ stripe_replay entries.items },
+}
+
+impl Model for StripeState {
+    ghost use Rattle.edge_core.specs.Shown.{StripeShown};
+
+    ghost Value = { StripeShown };
+
+    ghost use Rattle.edge_core.specs.Stripe.{stripe_in, IsStripe};
+
+    ghost view = { stripe_in };
+
+    ghost invariant = { IsStripe };
 }
 
 impl StripeState {
-    ghost use Rattle.edge_core.specs.Stripe.{table_of, history_of, SameStripe};
-
     /// A stripe without notes, whose history is empty.
     pub fn new(alloc: Global) -> StripeState
-        ensures { history_of result ≡ [] }
+        ensures history { result.history ≡ [] }
+        ensures keeps { KeepsStripe result }
     {
         StripeState {
             table: FragTable::new(alloc),
@@ -37,12 +47,13 @@ impl StripeState {
     pub fn step(&mut self, who: Who, now: u64, ask: &FragAsk) -> Result<FragAnswer, NoMemory>
         requires { now < 2 ^ 63 }
         ensures answer { IfOk result (λ answer.
-            answer ≡ (frag (table_of self.old) now (length (history_of self.old)) ask.now).answer) }
+            answer ≡ (frag self.old.table now (length self.old.history) ask.now).answer) }
         ensures table { OnOk result
-            (table_of self.new ≡ (frag (table_of self.old) now (length (history_of self.old)) ask.now).after) }
-        ensures history { IfOk result (λ answer. history_of self.new
-            ≡ history_of self.old ++ record { who = who; now = now; ask = ask.now; answer = answer } ∷ []) }
-        ensures err { OnErr result (SameStripe self.new self.old) }
+            (self.new.table ≡ (frag self.old.table now (length self.old.history) ask.now).after) }
+        ensures history { IfOk result (λ answer. self.new.history
+            ≡ self.old.history ++ record { who = who; now = now; ask = ask.now; answer = answer } ∷ []) }
+        ensures keeps { KeepsStripe self.new }
+        ensures err { OnErr result (self.new ≡ self.old) }
     {
         let freed = self.table.waiting(now, ask)?;
         let asked = ask.copy(self.alloc)?;
@@ -58,9 +69,10 @@ impl StripeState {
         Ok(answer)
     }
 
-    /// The steps so far, in their order.
+    /// The steps so far, in their order: a good history, whose replay is the notes.
     pub fn history(&self) -> &[StripeEntry]
-        ensures { result.now ≡ history_of self.now }
+        ensures history { result.now ≡ self.now.history }
+        ensures keeps { KeepsStripe self.now }
     {
         &self.entries
     }

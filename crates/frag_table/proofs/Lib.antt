@@ -2,3 +2,5 @@ pub mod Keys
 pub mod LiveNotes
 pub mod EachRow
 pub mod WithinBounds
+pub mod AnswerKinds
+pub mod HeldParcels

@@ -4,3 +4,4 @@ pub mod Frag
 pub mod Listed
 pub mod Place
 pub mod Bounds
+pub mod Kind

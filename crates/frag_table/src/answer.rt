@@ -1,6 +1,8 @@
-ghost use Rattle.std.specs.Prelude.{◌≡◌, IsOk, IfOk};
+ghost use Rattle.std.specs.Prelude.{◌≡◌, ◌↔◌, IsTrue, IsOk, IfOk};
 ghost use Rattle.frag_table.specs.Copied.{AnswerHasNoParcels};
+ghost use Rattle.frag_table.specs.Kind.{IsFragAnswerTo};
 
+use crate::FragAsk;
 use l4_headers::Ports;
 use octets::{NoMemory, Parcels};
 use std::alloc::Global;
@@ -32,6 +34,24 @@ impl FragAnswer {
             FragAnswer::Held => Ok(FragAnswer::Held),
             FragAnswer::Released(parcels) => Ok(FragAnswer::Released(parcels.copy(alloc)?)),
             FragAnswer::Full => Ok(FragAnswer::Full),
+        }
+    }
+
+    /// Whether this is an answer of the kind that the ask has: `Noted`, `Released` or `Full` to a first fragment, and
+    /// `Known`, `Held` or `Full` to a later one.
+    pub fn is_answer_to(&self, ask: &FragAsk) -> bool
+        ensures { IsTrue result ↔ IsFragAnswerTo ask.now self.now }
+    {
+        match self {
+            FragAnswer::Noted | FragAnswer::Released(_) => match ask {
+                FragAsk::First(_, _) => true,
+                FragAsk::Later(_, _) => false,
+            },
+            FragAnswer::Known(_) | FragAnswer::Held => match ask {
+                FragAsk::First(_, _) => false,
+                FragAsk::Later(_, _) => true,
+            },
+            FragAnswer::Full => true,
         }
     }
 }

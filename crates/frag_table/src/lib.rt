@@ -17,6 +17,6 @@ pub use answer::FragAnswer;
 pub use ask::FragAsk;
 pub use equal::equal_values_are_the_same;
 pub use key::FragKey;
-pub use laws::notes_keep_their_bounds;
+pub use laws::{each_fragment_has_an_answer_of_its_kind, notes_keep_their_bounds};
 pub use note::Note;
 pub use table::FragTable;

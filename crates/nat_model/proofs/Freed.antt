@@ -72,13 +72,13 @@ keeps-frees : (h : Holder) (s : NatState) (wish : Wish) (until : ℕ) (freed : L
 unfolding keeps
 keeps-frees h s wish until freed = kept_by-frees s freed (bound h s.clock wish (kept_until until) s.bindings)
 
-passed-frees : (h : Holder) (s : NatState) (ask : Ask) (g : Gathered) → FreesAtMost g.freed (passed h s ask g).answer
+pub passed-frees : (h : Holder) (s : NatState) (ask : Ask) (g : Gathered) → FreesAtMost g.freed (passed h s ask g).answer
 passed-frees h s (Outward true proto near far flags part) g = sent_error-frees h s _ _ g.freed
 passed-frees h s (Outward false proto near far flags part) g = sent_flow-frees h s _ _ g.freed
 passed-frees h s (Inward fault proto port far flags part) g = received_from-frees s fault proto g (remote s.book far g.ports.src)
 passed-frees h s (Keep proto host host_port port until) g = keeps-frees h s _ until g.freed
 
-told-frees : (h : Holder) (s : NatState) (ask : Ask) (answer : FragAnswer) → FreesAtMost (freed_by answer) (told h s ask answer).answer
+pub told-frees : (h : Holder) (s : NatState) (ask : Ask) (answer : FragAnswer) → FreesAtMost (freed_by answer) (told h s ask answer).answer
 told-frees h s ask Noted = passed-frees h s ask (record { ports = ports_of ask; freed = [] })
 told-frees h s ask (Known ports) = passed-frees h s ask (record { ports = ports; freed = [] })
 told-frees h s ask Held = inl refl

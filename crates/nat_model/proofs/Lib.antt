@@ -10,3 +10,8 @@ pub mod WholeSteps
 pub mod Others
 pub mod FirstTests
 pub mod NoPort
+pub mod AnswerKinds
+pub mod NotesAfter
+pub mod ParcelHistory
+pub mod Delivery
+pub mod Computed

@@ -1,4 +1,5 @@
--- The history of an edge: its steps in their order, each with who asked, when, what, and what was answered.
+-- The history of an edge: its steps in their order, each with who asked, when, what, and what was answered. The machine that
+-- made them is a parameter, which `nat` is an instance of.
 use Rattle.std.specs.Prelude.{◌≡◌, ℕ, suc, max, ◌==◌, List, [], ◌∷◌, Option, IsSome, unwrap_or}
 use Rattle.std.specs.List.{find}
 use Rattle.std.specs.Coded.{Coded-set, coded_ℕ, ×_prop, Unit-prop}
@@ -7,9 +8,13 @@ use Rattle.octets.specs.declared.prefix.Prefix6.{Prefix6}
 use Rattle.nat_model.specs.contracts.answer.Answer as answer_row
 use Rattle.nat_model.specs.declared.answer.Answer.{Answer}
 use Rattle.nat_model.specs.declared.binding.Binding.{Binding}
+use Rattle.nat_model.specs.declared.ask.Ask.{Ask}
 use Rattle.nat_model.specs.declared.entry.Entry.{Entry}
-use Rattle.nat_model.specs.State.{Generation, NatState, NatStep}
-use Rattle.nat_model.specs.Machine.{nat}
+use Rattle.nat_model.specs.State.{Generation, NatState, NatStep, Moment}
+
+-- a machine: what a step of an edge with a prefix leaves and answers, from a state, by what it is told and asked
+abbrev pub Stepping : Type 0
+Stepping = Prefix6 → NatState → Moment → Ask → NatStep
 
 -- where an edge begins: its prefix, the rules of its first generation, and the bindings that it keeps from the start
 pub record EdgeStart : Type 0 where
@@ -36,55 +41,59 @@ abbrev pub book_of : ℕ → List Generation → Option Generation
 book_of number books = find (λ b. b.number == number) books
 
 -- the machine's step at an entry: with the rules of the generation that the entry used, at the entry's place
-abbrev pub entry_step : Prefix6 → List Generation → Reached → Entry → NatStep
-entry_step prefix books r e =
-    nat prefix r.state (record { seen = unwrap_or (book_of e.mark.used books) r.state.book; now = e.now; place = r.place }) e.ask
+abbrev pub entry_step : Stepping → Prefix6 → List Generation → Reached → Entry → NatStep
+entry_step step prefix books r e =
+    step prefix r.state (record { seen = unwrap_or (book_of e.mark.used books) r.state.book; now = e.now; place = r.place }) e.ask
 
 -- one entry further
-abbrev pub further : Prefix6 → List Generation → Reached → Entry → Reached
-further prefix books r e = record { place = suc r.place; used = e.mark.used; state = (entry_step prefix books r e).after }
+abbrev pub further : Stepping → Prefix6 → List Generation → Reached → Entry → Reached
+further step prefix books r e =
+    record { place = suc r.place; used = e.mark.used; state = (entry_step step prefix books r e).after }
 
 -- how far these entries lead
-abbrev pub replay_from : Prefix6 → List Generation → Reached → List Entry → Reached
-replay_from prefix books r [] = r
-replay_from prefix books r (e ∷ entries) = replay_from prefix books (further prefix books r e) entries
+abbrev pub replay_from : Stepping → Prefix6 → List Generation → Reached → List Entry → Reached
+replay_from step prefix books r [] = r
+replay_from step prefix books r (e ∷ entries) = replay_from step prefix books (further step prefix books r e) entries
 
 -- an entry has the machine's answer, it used the greater of the generation that it saw and the one used before, and
 -- the rules of that generation are among those that were used
-pub record IsGoodEntry (prefix : Prefix6) (books : List Generation) (r : Reached) (e : Entry) : Type 0 where
-  pub answer : e.answer ≡ (entry_step prefix books r e).answer
+pub record IsGoodEntry (step : Stepping) (prefix : Prefix6) (books : List Generation) (r : Reached) (e : Entry) : Type 0 where
+  pub answer : e.answer ≡ (entry_step step prefix books r e).answer
   pub used : e.mark.used ≡ max e.mark.seen r.used
   pub book : IsSome (book_of e.mark.used books)
 
 -- each of these entries is good after those before it
-abbrev pub AreGoodFrom : Prefix6 → List Generation → Reached → List Entry → Type 0
-AreGoodFrom prefix books r [] = Unit {0}
-AreGoodFrom prefix books r (e ∷ entries) = IsGoodEntry prefix books r e × AreGoodFrom prefix books (further prefix books r e) entries
+abbrev pub AreGoodFrom : Stepping → Prefix6 → List Generation → Reached → List Entry → Type 0
+AreGoodFrom step prefix books r [] = Unit {0}
+AreGoodFrom step prefix books r (e ∷ entries) =
+    IsGoodEntry step prefix books r e × AreGoodFrom step prefix books (further step prefix books r e) entries
 
 -- the state after a whole history
-abbrev pub replay : EdgeStart → List Generation → List Entry → NatState
-replay start books entries = (replay_from start.prefix books (outset start) entries).state
+abbrev pub replay : Stepping → EdgeStart → List Generation → List Entry → NatState
+replay step start books entries = (replay_from step start.prefix books (outset start) entries).state
 
 -- a good history
-abbrev pub IsGood : EdgeStart → List Generation → List Entry → Type 0
-IsGood start books entries = AreGoodFrom start.prefix books (outset start) entries
+abbrev pub IsGood : Stepping → EdgeStart → List Generation → List Entry → Type 0
+IsGood step start books entries = AreGoodFrom step start.prefix books (outset start) entries
 
 answer-set : IsSet Answer
 answer-set = Coded-set answer_row.the_row.coded
 
-IsGoodEntry-prop : (prefix : Prefix6) (books : List Generation) (r : Reached) (e : Entry) → IsProp (IsGoodEntry prefix books r e)
-IsGoodEntry-prop prefix books r e p q = λ i. record {
+IsGoodEntry-prop : (step : Stepping) (prefix : Prefix6) (books : List Generation) (r : Reached) (e : Entry)
+    → IsProp (IsGoodEntry step prefix books r e)
+IsGoodEntry-prop step prefix books r e p q = λ i. record {
   answer = answer-set _ _ p.answer q.answer i;
   used = Coded-set coded_ℕ _ _ p.used q.used i;
   book = Bool-set _ _ p.book q.book i;
 }
 
 -- a history is good in at most one way
-pub AreGoodFrom-prop : (prefix : Prefix6) (books : List Generation) (r : Reached) (entries : List Entry)
-    → IsProp (AreGoodFrom prefix books r entries)
-AreGoodFrom-prop prefix books r [] = Unit-prop
-AreGoodFrom-prop prefix books r (e ∷ entries) =
-    ×_prop (IsGoodEntry-prop prefix books r e) (AreGoodFrom-prop prefix books (further prefix books r e) entries)
+pub AreGoodFrom-prop : (step : Stepping) (prefix : Prefix6) (books : List Generation) (r : Reached) (entries : List Entry)
+    → IsProp (AreGoodFrom step prefix books r entries)
+AreGoodFrom-prop step prefix books r [] = Unit-prop
+AreGoodFrom-prop step prefix books r (e ∷ entries) =
+    ×_prop (IsGoodEntry-prop step prefix books r e) (AreGoodFrom-prop step prefix books (further step prefix books r e) entries)
 
-pub IsGood-prop : (start : EdgeStart) (books : List Generation) (entries : List Entry) → IsProp (IsGood start books entries)
-IsGood-prop start books entries = AreGoodFrom-prop start.prefix books (outset start) entries
+pub IsGood-prop : (step : Stepping) (start : EdgeStart) (books : List Generation) (entries : List Entry)
+    → IsProp (IsGood step start books entries)
+IsGood-prop step start books entries = AreGoodFrom-prop step start.prefix books (outset start) entries

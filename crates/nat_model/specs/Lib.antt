@@ -13,3 +13,6 @@ pub mod History
 pub mod Waiting
 pub mod Run
 pub mod Refusal
+pub mod Kind
+pub mod Parcels
+pub mod Delivered

@@ -1,9 +1,9 @@
-use Rattle.std.proofs.Common.{◌≡◌, List, ◌∷◌, [], length, refl, sym, ap, ◌∙◌, subst}
+use Rattle.std.proofs.Common.{◌≡◌, [], length, sym, ap, ◌∙◌, subst}
 use Rattle.octets.specs.declared.prefix.Prefix6.{Prefix6}
-use Rattle.nat_model.specs.State.{Generation, NatState, NatMachine, generation_in}
+use Rattle.nat_model.specs.State.{Generation, NatMachine, generation_in}
 use Rattle.nat_model.specs.Sound.{IsSound}
 use Rattle.edge_core.specs.Used.{started, used_books}
-use Rattle.edge_core.proofs.Entries.{kept-begun}
+use Rattle.edge_core.proofs.Entries.{kept-begun, edge-kept}
 use Rattle.edge_core.proofs.edge.EdgeState.start.Goals as goal
 
 pub invariant_of-result : goal.invariant_of-result
@@ -20,13 +20,10 @@ invariant_of-result g c =
     let all = kept-begun (started c.args.prefix first kept) (used_books first c.new.result.items) c.generation.result c.in_ok-start.field-0.state c.new-2.result.items books used begun c.new-2.ensures.items in
     let prefix = ap (λ (m : NatMachine). m.prefix) made in
     let P : Prefix6 → Type 0 = λ p. IsSound p c.in_ok-start.field-0.state in
+    let number = ap (λ (m : NatMachine). m.state.book.number) made ∙ sym c.generation.ensures in
     record {
-      good = all.good;
-      replays = all.replays;
-      sound = subst P prefix c.in_ok-start.ensures.sound;
-      are_used = all.are_used;
-      latest = all.latest;
-      generation = ap (λ (m : NatMachine). m.state.book.number) made ∙ sym c.generation.ensures;
-      machine_prefix = prefix;
+      keeps = edge-kept (started c.args.prefix first kept) (used_books first c.new.result.items) c.generation.result c.in_ok-start.field-0.state c.new-2.result.items all (subst P prefix c.in_ok-start.ensures.sound) number;
+      used = number;
+      prefix = prefix;
       counted = ap (λ (m : NatMachine). m.steps) made ∙ ap length (sym c.new-2.ensures.items);
     }
