@@ -61,7 +61,7 @@ right_tcp rest rest' old new payload ports stands fit some change right =
     ∙ right_adjusted front front' c (old + (word payload 0 + word payload 2)) (new + port_words ports) (ap folded before ∙ right) (omega arith) (omega arith)
 
 -- an echo's words
-words-echo : (payload : List ℕ) → 8 ≤ length payload → words payload ≡ word payload 0 + word payload 2 + word payload 4 + words (drop 6 payload)
+pub words-echo : (payload : List ℕ) → 8 ≤ length payload → words payload ≡ word payload 0 + word payload 2 + word payload 4 + words (drop 6 payload)
 words-echo (a ∷ b ∷ c ∷ d ∷ e ∷ f ∷ rest) long = omega arith
 words-echo (a ∷ b ∷ c ∷ d ∷ e ∷ []) long = absurd (omega arith)
 words-echo (a ∷ b ∷ c ∷ d ∷ []) long = absurd (omega arith)

@@ -1,3 +1,4 @@
 mod PutBack
 mod Standing
 mod RightSums
+mod EmbeddedSums
