@@ -2,3 +2,4 @@ mod PutBack
 mod Standing
 mod RightSums
 mod EmbeddedSums
+mod ReadAgain

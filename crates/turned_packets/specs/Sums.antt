@@ -1,16 +1,16 @@
 -- The packet that a turned error embeds as it is read again, and its sums. The transport sum covers the pseudo header with the
 -- declared length, and the whole payload, of which the error may hold the beginning alone.
-use Rattle.std.specs.Prelude.{◌≡◌, ℕ, ◌+◌, ◌<◌, nat_le, if◌then◌else◌, List, length, take, drop}
-use Rattle.octets.specs.Field.{octet, word, with_word}
+use Rattle.std.specs.Prelude.{◌≡◌, ℕ, ◌+◌, nat_le, if◌then◌else◌, List, length, drop}
+use Rattle.octets.specs.Field.{word, with_word}
 use Rattle.octets.specs.declared.proto.Proto.{Proto}
 use Rattle.octets.specs.declared.proto.Proto.TheVariants.{Tcp, Udp, Icmp}
-use Rattle.inet_sum.specs.Sum.{words, IsRight}
-use Rattle.ip4_packet.specs.declared.head.Head4.{Head4}
+use Rattle.inet_sum.specs.Sum.{words}
 use Rattle.l4_headers.specs.declared.ports.Ports.{Ports}
+use Rattle.icmp_messages.specs.declared.icmp4.Icmp4.{Icmp4}
 use Rattle.icmp_messages.specs.declared.inner4.Inner4.{Inner4}
 use Rattle.turned_packets.specs.declared.ends.NewEnd.{NewEnd}
 use Rattle.turned_packets.specs.Ends.{with_address, with_port}
-use Rattle.turned_packets.specs.Embedded.{port_place, sum_place, embedded_sum}
+use Rattle.turned_packets.specs.Embedded.{port_place, sum_place, embedded_sum, turned_embedded}
 
 -- its ports: both ports of an echo are its identifier
 abbrev pub turned_ports : NewEnd → Proto → Ports → Ports
@@ -35,15 +35,11 @@ turned_inner new inner = record {
   proto = inner.proto;
 }
 
+-- the error about it, as `turned_error` has it for the end that the embedded packet shows
+abbrev pub with_embedded : NewEnd → Icmp4 → Inner4 → Icmp4
+with_embedded new m inner = record m { body = turned_embedded new inner m.body }
+
 -- All that the sum of a turned echo covers is 0: it is a reply, its identifier is 0, and so is what follows.
 abbrev pub IsZeroEcho : NewEnd → Inner4 → ℕ → Type 0
 IsZeroEcho new inner later =
     (inner.proto ≡ Icmp) × (word inner.payload 0 ≡ 0) × (new.port ≡ 0) × (words (drop 6 inner.payload) + later ≡ 0)
-
--- octets are numbers of 8 bits
-abbrev pub AreOctets : List ℕ → Type 0
-AreOctets octets = (k : ℕ) → octet octets k < 256
-
--- the sum of the header at the front of these octets is right
-abbrev pub IsRightHeader : Head4 → List ℕ → Type 0
-IsRightHeader h octets = IsRight (take h.head_len octets)
