@@ -41,3 +41,12 @@ pub same_refusal : {A : Type 0} (r : Result A Fault) (f : Fault) (cause other : 
     → (r ≡ Err (Drop other)) ⊎ (r ≡ Err NoMemory) → other ≡ cause
 same_refusal r f cause other err drop (inl e) = one_drop other cause (one_fault r (Drop other) f e err ∙ drop)
 same_refusal r f cause other err drop (inr e) = no_want cause (sym drop ∙ one_fault r f NoMemory err e)
+
+same_error : {A E : Type 0} (f g : E) → ◌≡◌ {A = Result A E} (Err f) (Err g) → f ≡ g
+same_error f g e = cc
+
+-- a refusal that is handed on is the same
+pub handed_on : {A B E : Type 0} (f g h : E) → ◌≡◌ {A = Result A E} (Err f) (Err g) ⊎ ◌≡◌ {A = Result A E} (Err f) (Err h)
+    → ◌≡◌ {A = Result B E} (Err f) (Err g) ⊎ ◌≡◌ {A = Result B E} (Err f) (Err h)
+handed_on f g h (inl e) = inl (ap Err (same_error f g e))
+handed_on f g h (inr e) = inr (ap Err (same_error f h e))

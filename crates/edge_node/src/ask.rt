@@ -1,7 +1,7 @@
 //! What an edge asks its machine.
-ghost use Rattle.std.specs.Prelude.{◌≡◌, IfOk, IsErr, Err};
+ghost use Rattle.std.specs.Prelude.{◌≡◌, ◌⊎◌, IfOk, Ok, Err};
 ghost use Rattle.octets.specs.declared.cause.Cause.{Cause as AnyCause};
-ghost use Rattle.octets.specs.declared.cause.Fault.TheVariants.{Drop as Dropped};
+ghost use Rattle.octets.specs.declared.cause.Fault.TheVariants.{Drop as Dropped, NoMemory as WantsMemory};
 ghost use Rattle.nat_model.specs.declared.ask.Ask.{Ask as AnyAsk};
 ghost use Rattle.packets.specs.Asked.{flow_of4, flow_of6, extent_of4, extent_of6, key_of4, key_of6};
 ghost use Rattle.edge_node.specs.declared.way.Way.TheVariants.{Lan as FromLan, Access as FromAccess, Turned as FromItself};
@@ -146,9 +146,9 @@ fn inward_turned(alloc: Global, packet: &Packet4, octets: &[u8]) -> Result<Ask, 
 /// The ask of a packet from the LAN.
 fn from_lan(alloc: Global, octets: &[u8]) -> Result<Ask, Fault>
     ensures found { IfOk result (IsAsk FromLan octets.now) }
-    ensures only { (ask : AnyAsk) → IsAsk FromLan octets.now ask → IfOk result (λ asked. asked ≡ ask) }
+    ensures only { (ask : AnyAsk) → IsAsk FromLan octets.now ask → (result ≡ Ok ask) ⊎ (result ≡ Err WantsMemory) }
     ensures refused { (cause : AnyCause) → result ≡ Err (Dropped cause) → IsDroppedAt FromLan cause octets.now }
-    ensures dropped { (cause : AnyCause) → IsDroppedAt FromLan cause octets.now → IsErr result }
+    ensures cause { (cause : AnyCause) → IsDroppedAt FromLan cause octets.now → (result ≡ Err (Dropped cause)) ⊎ (result ≡ Err WantsMemory) }
 {
     match Packet4::read(alloc, octets) {
         Ok(packet) => Ok(outward(alloc, &packet, octets)?),
@@ -159,9 +159,9 @@ fn from_lan(alloc: Global, octets: &[u8]) -> Result<Ask, Fault>
 /// The ask of a packet from the access network.
 fn from_access(alloc: Global, octets: &[u8]) -> Result<Ask, Fault>
     ensures found { IfOk result (IsAsk FromAccess octets.now) }
-    ensures only { (ask : AnyAsk) → IsAsk FromAccess octets.now ask → IfOk result (λ asked. asked ≡ ask) }
+    ensures only { (ask : AnyAsk) → IsAsk FromAccess octets.now ask → (result ≡ Ok ask) ⊎ (result ≡ Err WantsMemory) }
     ensures refused { (cause : AnyCause) → result ≡ Err (Dropped cause) → IsDroppedAt FromAccess cause octets.now }
-    ensures dropped { (cause : AnyCause) → IsDroppedAt FromAccess cause octets.now → IsErr result }
+    ensures cause { (cause : AnyCause) → IsDroppedAt FromAccess cause octets.now → (result ≡ Err (Dropped cause)) ⊎ (result ≡ Err WantsMemory) }
 {
     match Packet6::read(alloc, octets, false) {
         Ok(packet) => Ok(inward(alloc, &packet, octets)?),
@@ -172,9 +172,9 @@ fn from_access(alloc: Global, octets: &[u8]) -> Result<Ask, Fault>
 /// The ask of a packet that the edge turned.
 fn from_itself(alloc: Global, octets: &[u8]) -> Result<Ask, Fault>
     ensures found { IfOk result (IsAsk FromItself octets.now) }
-    ensures only { (ask : AnyAsk) → IsAsk FromItself octets.now ask → IfOk result (λ asked. asked ≡ ask) }
+    ensures only { (ask : AnyAsk) → IsAsk FromItself octets.now ask → (result ≡ Ok ask) ⊎ (result ≡ Err WantsMemory) }
     ensures refused { (cause : AnyCause) → result ≡ Err (Dropped cause) → IsDroppedAt FromItself cause octets.now }
-    ensures dropped { (cause : AnyCause) → IsDroppedAt FromItself cause octets.now → IsErr result }
+    ensures cause { (cause : AnyCause) → IsDroppedAt FromItself cause octets.now → (result ≡ Err (Dropped cause)) ⊎ (result ≡ Err WantsMemory) }
 {
     match Packet4::read(alloc, octets) {
         Ok(packet) => Ok(inward_turned(alloc, &packet, octets)?),
@@ -190,11 +190,11 @@ fn from_itself(alloc: Global, octets: &[u8]) -> Result<Ask, Fault>
 pub fn ask_of(alloc: Global, way: Way, packet: &[u8]) -> Result<Ask, Fault>
     ensures found { IfOk result (IsAsk way packet.now) }
     // What is to be asked is asked.
-    ensures only { (ask : AnyAsk) → IsAsk way packet.now ask → IfOk result (λ asked. asked ≡ ask) }
+    ensures only { (ask : AnyAsk) → IsAsk way packet.now ask → (result ≡ Ok ask) ⊎ (result ≡ Err WantsMemory) }
     // A refusal is the least cause.
     ensures refused { (cause : AnyCause) → result ≡ Err (Dropped cause) → IsDroppedAt way cause packet.now }
-    // A packet with a cause is refused.
-    ensures dropped { (cause : AnyCause) → IsDroppedAt way cause packet.now → IsErr result }
+    // The least cause is a refusal.
+    ensures cause { (cause : AnyCause) → IsDroppedAt way cause packet.now → (result ≡ Err (Dropped cause)) ⊎ (result ≡ Err WantsMemory) }
 {
     match way {
         Way::Lan => from_lan(alloc, packet),

@@ -8,11 +8,13 @@ mod equal;
 mod freed;
 mod hop;
 mod inward;
+mod laws;
 mod outward;
 mod way;
 
 pub use ask::ask_of;
 pub use equal::equal_values_are_the_same;
 pub use hop::emit;
+pub use laws::{an_edge_has_one_hop, each_packet_asks_the_edge_or_is_dropped};
 pub use packet_faults::{Causes, Hop, Out, Outs};
 pub use way::{EdgeParams, Way};

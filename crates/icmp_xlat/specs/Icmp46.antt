@@ -79,6 +79,10 @@ abbrev pub EmbedsOne46 : Icmp4 → Option Row → Type 0
 EmbedsOne46 m None = Unit {0}
 EmbedsOne46 m (Some row) = (row.rest ≡ Query) ⊎ ((inner : Inner4) × IsInner4 inner (embedded46 m))
 
+-- a message that has a translation, and is no query, embeds a packet; of one that has none nothing is asked
+abbrev pub MayEmbed46 : Icmp4 → Type 0
+MayEmbed46 m = (HasNoRow46 m → ⊥) → EmbedsOne46 m (row_of table46 m.kind m.code)
+
 -- The answer to a packet of this header and message. A query and an error are answered by the packet with their
 -- translated message; IcmpKind comes exactly where a message has no translation, but for want of memory.
 pub record IsAnswer46 (mtus : Mtus) (head : Head4) (m : Icmp4) (ends : Ends Addr6) (result : Result (List ℕ) Fault) : Type 0 where
@@ -91,10 +95,11 @@ pub record IsAnswer46 (mtus : Mtus) (head : Head4) (m : Icmp4) (ends : Ends Addr
   pub lacking : HasNoRow46 m → IsErr result
   pub no_other : IfErr result (λ fault. (fault ≡ Drop IcmpKind) ⊎ (fault ≡ NoMemory))
 
--- what is translated: an ICMPv4 packet as above with a TTL of at least 2, whose embedded packet can be read
+-- what is translated or has no translation: an ICMPv4 packet as above with a TTL of at least 2, whose embedded packet can
+-- be read where it has a translation
 pub record IsAccepted46 (octets : List ℕ) : Type 0 where
   pub head : Head4
   pub message : Icmp4
   pub is : IsMessage46 head message octets
   pub alive : 2 ≤ head.ttl
-  pub embeds : EmbedsOne46 message (row_of table46 message.kind message.code)
+  pub embeds : MayEmbed46 message

@@ -1,7 +1,6 @@
 -- An ICMPv6 packet translated to ICMPv4 (after RFC 7915, sections 5.2 and 5.3). Sums are made anew.
 use Rattle.std.specs.Prelude.{◌≡◌, ℕ, ◌+◌, ◌*◌, ◌/◌, ◌%◌, ◌^◌, ◌≤◌, ◌⊎◌, false, not, ◌==◌, ◌||◌, ◌&&◌, if◌then◌else◌, List, length, take, Option, Some, None, Result, Err, IfOk, IfErr, IsErr}
 use Rattle.std.specs.Option.{option_map}
-use Rattle.octets.specs.Field.{octet}
 use Rattle.octets.specs.declared.address.Addr4.{Addr4}
 use Rattle.octets.specs.declared.mtus.Mtus.{Mtus}
 use Rattle.octets.specs.declared.cause.Cause.TheVariants.{IcmpKind}
@@ -16,7 +15,7 @@ use Rattle.icmp_messages.specs.declared.icmp4.Icmp4.{Icmp4}
 use Rattle.icmp_messages.specs.declared.icmp6.Icmp6.{Icmp6}
 use Rattle.icmp_messages.specs.declared.inner6.Inner6.{Inner6}
 use Rattle.icmp_messages.specs.Message.{IsIcmp6, message4}
-use Rattle.icmp_messages.specs.Inner.{IsInner6}
+use Rattle.icmp_messages.specs.Inner.{IsEcho6, IsInner6}
 use Rattle.xlat64.specs.Head.{translated}
 use Rattle.icmp_xlat.specs.declared.ends.Ends.{Ends}
 use Rattle.icmp_xlat.specs.declared.table.Row.{Row}
@@ -81,6 +80,10 @@ abbrev pub EmbedsOne64 : Icmp6 → Option Row → Type 0
 EmbedsOne64 m None = Unit {0}
 EmbedsOne64 m (Some row) = (row.rest ≡ Query) ⊎ ((inner : Inner6) × IsInner6 inner (embedded64 m))
 
+-- a message that has a translation, and is no query, embeds a packet; of one that has none nothing is asked
+abbrev pub MayEmbed64 : Icmp6 → Type 0
+MayEmbed64 m = (HasNoRow64 m → ⊥) → EmbedsOne64 m (row_of table64 m.kind m.code)
+
 -- The answer to a packet of these headers and this message. A query and an error are answered by the packet with their
 -- translated message; IcmpKind comes exactly where a message has no translation, but for want of memory.
 pub record IsAnswer64 (mtus : Mtus) (head : Head6) (m : Icmp6) (ends : Ends Addr4) (id : ℕ) (result : Result (List ℕ) Fault) : Type 0 where
@@ -93,12 +96,12 @@ pub record IsAnswer64 (mtus : Mtus) (head : Head6) (m : Icmp6) (ends : Ends Addr
   pub lacking : HasNoRow64 m → IsErr result
   pub no_other : IfErr result (λ fault. (fault ≡ Drop IcmpKind) ⊎ (fault ≡ NoMemory))
 
--- what is translated: an ICMPv6 packet as above with a hop limit of at least 2, whose embedded packet can be read; a
--- query fits IPv4
+-- what is translated or has no translation: an ICMPv6 packet as above with a hop limit of at least 2, whose embedded
+-- packet can be read where it has a translation; a query, which has code 0, fits IPv4
 pub record IsAccepted64 (octets : List ℕ) : Type 0 where
   pub head : Head6
   pub message : Icmp6
   pub is : IsMessage64 head message octets
   pub alive : 2 ≤ head.hop
-  pub embeds : EmbedsOne64 message (row_of table64 message.kind message.code)
-  pub fits : octet (payload_of6 head octets) 0 ≡ 128 ⊎ octet (payload_of6 head octets) 0 ≡ 129 → head.length ≤ 65515
+  pub embeds : MayEmbed64 message
+  pub fits : IsEcho6 (payload_of6 head octets) → head.length ≤ 65515

@@ -2,4 +2,5 @@ pub mod Icmp46
 pub mod Icmp64
 pub mod Inner
 pub mod Mtu
+pub mod Sums
 pub mod Table

@@ -13,7 +13,10 @@ mod to_icmp6;
 
 pub use ends::Ends;
 pub use equal::equal_values_are_the_same;
-pub use laws::{a_translated_icmpv4_sum_is_right, a_translated_icmpv6_sum_is_right};
+pub use laws::{
+    a_right_embedded_sum_stays_right_when_translated, a_translated_icmpv4_sum_is_right,
+    a_translated_icmpv6_sum_is_right,
+};
 pub use table::{Rest, Row};
 pub use to_icmp4::{answer64, embedded64, icmp64, translation64};
 pub use to_icmp6::{answer46, embedded46, icmp46, translation46};

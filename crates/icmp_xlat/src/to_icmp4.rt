@@ -10,7 +10,7 @@ ghost use Rattle.icmp_messages.specs.Inner.{IsInner6};
 ghost use Rattle.icmp_xlat.specs.Table.{row_of, table64};
 ghost use Rattle.icmp_xlat.specs.declared.table.Rest.TheVariants.{Query as QueryRest};
 ghost use Rattle.icmp_xlat.specs.Inner.{Stands6};
-ghost use Rattle.icmp_xlat.specs.Icmp64.{rest64, embedded64, query64, error64, with_message64, LacksPointer64, HasNoRow64, EmbedsOne64, IsMessage64, IsAnswer64, IsAccepted64};
+ghost use Rattle.icmp_xlat.specs.Icmp64.{rest64, embedded64, query64, error64, with_message64, LacksPointer64, HasNoRow64, EmbedsOne64, MayEmbed64, IsMessage64, IsAnswer64, IsAccepted64};
 
 use crate::Ends;
 use crate::inner::inner64;
@@ -154,7 +154,7 @@ pub fn translation64(message: &Icmp6) -> Option<Row>
 }
 
 /// The packet of these headers with this message, translated to ICMPv4 as `icmp64` translates a packet that isn't read
-/// yet.
+/// yet. What a message embeds that has no translation isn't looked at.
 pub fn answer64(
     alloc: Global,
     mtus: Mtus,
@@ -165,10 +165,10 @@ pub fn answer64(
 ) -> Result<Bytes, Fault>
     requires alive { 1 ≤ head.now.hop }
     requires offset { fragment_offset head.now.frag ≡ 0 }
-    requires embeds { EmbedsOne64 message.now (row_of table64 message.now.kind message.now.code) }
+    requires embeds { MayEmbed64 message.now }
     ensures { IsAnswer64 mtus head.now message.now ends.now id result }
 {
-    let Some(row) = row64(message.kind, message.code) else {
+    let Some(row) = translation64(message) else {
         return Err(Fault::Drop(Cause::IcmpKind));
     };
     let translated = translated64(alloc, mtus, message, row, ends)?;
@@ -181,8 +181,8 @@ pub fn answer64(
 /// are made anew.
 ///
 /// Refuses as `IcmpKind`, and as nothing else but for want of memory, exactly what has no row in the tables of types,
-/// codes and pointers. The packet has no other cause for which it is dropped, and a hop limit of at least 2; a query
-/// has an upper payload of at most 65,515 octets.
+/// codes and pointers, whatever it embeds. The packet has no other cause for which it is dropped, and a hop limit of at
+/// least 2; a query has an upper payload of at most 65,515 octets.
 pub fn icmp64(
     alloc: Global,
     mtus: Mtus,

@@ -10,7 +10,7 @@ ghost use Rattle.icmp_messages.specs.Inner.{IsInner4};
 ghost use Rattle.xlat46.specs.Head.{is_fragment};
 ghost use Rattle.icmp_xlat.specs.declared.table.Rest.TheVariants.{Query as QueryRest};
 ghost use Rattle.icmp_xlat.specs.Inner.{Stands4};
-ghost use Rattle.icmp_xlat.specs.Icmp46.{rest46, embedded46, query46, error46, with_message46, LacksPointer46, HasNoRow46, EmbedsOne46, IsMessage46, IsAnswer46, IsAccepted46};
+ghost use Rattle.icmp_xlat.specs.Icmp46.{rest46, embedded46, query46, error46, with_message46, LacksPointer46, HasNoRow46, EmbedsOne46, MayEmbed46, IsMessage46, IsAnswer46, IsAccepted46};
 
 use crate::Ends;
 use crate::inner::inner46;
@@ -159,7 +159,7 @@ pub fn translation46(message: &Icmp4) -> Option<Row>
 }
 
 /// The packet with this header and this message, translated to ICMPv6 as `icmp46` translates a packet that isn't read
-/// yet.
+/// yet. What a message embeds that has no translation isn't looked at.
 pub fn answer46(
     alloc: Global,
     mtus: Mtus,
@@ -172,10 +172,10 @@ pub fn answer46(
     requires protocol { head.now.proto ≡ 1 }
     requires whole { is_fragment head.now ≡ false }
     requires fits { length message.now.body ≤ 65515 }
-    requires embeds { EmbedsOne46 message.now (row_of table46 message.now.kind message.now.code) }
+    requires embeds { MayEmbed46 message.now }
     ensures { IsAnswer46 mtus head.now message.now ends.now result }
 {
-    let Some(row) = row46(message.kind, message.code) else {
+    let Some(row) = translation46(message) else {
         return Err(Fault::Drop(Cause::IcmpKind));
     };
     let translated = translated46(alloc, mtus, message, row, ends)?;
@@ -187,7 +187,7 @@ pub fn answer46(
 /// and has at most 1280 octets; its extension is dropped. All ICMP sums are made anew.
 ///
 /// Refuses as `IcmpKind`, and as nothing else but for want of memory, exactly what has no row in the tables of types,
-/// codes and pointers. The packet has no other cause for which it is dropped, and a TTL of at least 2.
+/// codes and pointers, whatever it embeds. The packet has no other cause for which it is dropped, and a TTL of at least 2.
 pub fn icmp46(alloc: Global, mtus: Mtus, packet: &[u8], ends: &Ends<Addr6>) -> Result<Bytes, Fault>
     requires { IsAccepted46 packet.now }
     ensures { (head : Header) (m : Message) → IsMessage46 head m packet.now → IsAnswer46 mtus head m ends.now result }

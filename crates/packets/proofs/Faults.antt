@@ -1,5 +1,5 @@
 -- Faults that are handed on, and the least cause.
-use Rattle.std.proofs.Common.{◌≡◌, ◌⊎◌, ◌<◌, ℕ, sym, ◌∙◌, refl, ap, Some, inl, inr, arith}
+use Rattle.std.proofs.Common.{◌≡◌, ◌⊎◌, ◌<◌, sym, ◌∙◌, refl, ap, Some, inl, inr, arith}
 use Rattle.std.specs.Prelude.{Result, Ok, Err, IsErrAnd}
 use Rattle.octets.specs.Cause.{IsLeast, number_of, cause_of}
 use Rattle.octets.specs.declared.cause.Cause.{Cause}

@@ -1,3 +1,12 @@
+pub mod Accepted4
+pub mod Accepted6
+pub mod Decided
 pub mod Faults
+pub mod Header4
+pub mod Header6
+pub mod Rests
 pub mod Spared4
 pub mod Spared6
+pub mod Taken4
+pub mod Taken6
+pub mod TakenOnce

@@ -1,11 +1,11 @@
 -- A packet that carries something has none of the causes behind its header.
-use Rattle.std.proofs.Common.{◌≡◌, ◌≢◌, ◌⊎◌, ◌<◌, ◌≤◌, ℕ, List, false, true, ⊎_elim, arith, sym, ◌∙◌, refl, ap, Some, None, inl, inr, length, subst}
-use Rattle.std.specs.Prelude.{Result, Ok, Err, IsTrue, IsErrAnd, Option, Bool, not}
+use Rattle.std.proofs.Common.{◌≡◌, ◌≤◌, ℕ, List, false, arith, sym, ◌∙◌, refl, ap, Some, inl, inr, length, subst}
+use Rattle.std.specs.Prelude.{Result, Ok, Option, Bool, not}
 use Rattle.std.proofs.lemmas.Grind.{common_steps}
-use Rattle.octets.specs.Cause.{IsLeast, number_of, cause_of}
+use Rattle.octets.specs.Cause.{IsLeast}
 use Rattle.octets.specs.Protocol.{proto4}
 use Rattle.octets.specs.declared.cause.Cause.{Cause}
-use Rattle.octets.specs.declared.cause.Cause.TheVariants.{NotIp, Truncated, BadHeader, BadHeaderSum, BadDestination, SourceRoute, UnsupportedProtocol, IcmpFragment, BadTransport, IcmpSum, IcmpKind, BadInner, NoUdpSum, NoBasicRule, WrongDestination, FragmentsFull, Spoofed, NotDefault, NoOwner, NoBinding, NoPort, TtlSpent, TooBig}
+use Rattle.octets.specs.declared.cause.Cause.TheVariants.{SourceRoute, UnsupportedProtocol, IcmpFragment, BadTransport, IcmpSum, IcmpKind, BadInner, NoUdpSum}
 use Rattle.octets.specs.declared.cause.Fault.{Fault}
 use Rattle.octets.specs.declared.cause.Fault.TheVariants.{Drop, NoMemory}
 use Rattle.octets.specs.declared.proto.Proto.{Proto}
@@ -27,7 +27,7 @@ use Rattle.packets.specs.declared.packet4.Content4.{Content4}
 use Rattle.packets.specs.declared.packet4.Content4.TheVariants.{Segment, Later, Query, Error}
 use Rattle.packets.specs.declared.packet4.Packet4.{Packet4}
 use Rattle.packets.specs.Behind4.{Behind4, IsError4, IsBadEmbedded4}
-use Rattle.packets.specs.Packet4.{IsContent4, IsSegment4, IsLater4, IsMessage4, IsErrorOf4}
+use Rattle.packets.specs.Packet4.{IsContent4, IsMessage4}
 
 -- octets with a header, a payload behind it, and a protocol that is carried have no fault
 not_lacking : (h : Head4) (octets : List ℕ) → HasHeader4 h octets → LacksHeader4 octets → ⊥
@@ -65,13 +65,13 @@ udp_alone n proto is protocol = grind (arith, common_steps)
 icmp_is : (n : ℕ) (proto : Proto) → n ≡ 1 → proto4 n ≡ Some proto → proto ≡ Icmp
 icmp_is n proto is protocol = icmp_alone n proto is protocol
 
-no_bad_message : (payload : List ℕ) {m : Icmp4} (proto : Proto) (whole : Bool) → IsIcmp4 m payload → proto ≡ Icmp → IsBadTransport proto payload whole → ⊥
+pub no_bad_message : (payload : List ℕ) {m : Icmp4} (proto : Proto) (whole : Bool) → IsIcmp4 m payload → proto ≡ Icmp → IsBadTransport proto payload whole → ⊥
 no_bad_message payload Tcp whole is icmp bad = cc
 no_bad_message payload Udp whole is icmp bad = cc
 no_bad_message payload Icmp whole is icmp (inl short) = omega (arith, is.stands, short)
 no_bad_message payload Icmp whole is icmp (inr bad) = bad.1
 
-one_row : (found : Option Row) (one other : Row) → found ≡ Some one → found ≡ Some other → other ≡ one
+pub one_row : (found : Option Row) (one other : Row) → found ≡ Some one → found ≡ Some other → other ≡ one
 one_row found one other a b = cc
 
 -- a query has a row
@@ -79,11 +79,11 @@ query_has_row : (m : Icmp4) (row : Row) → row_of table46 m.kind m.code ≡ Som
 query_has_row m row found query lacks = let l : LacksPointer46 m (Some row) = rw found at lacks in let pointer : row.rest ≡ Pointer = l.0 in cc
 
 -- an embedded packet that is read, and was sent from where the error goes, isn't bad
-fine_embedded : (h : Head4) (m : Icmp4) (inner : Inner4) → IsInner4 inner (embedded46 m) → inner.head.src ≡ h.dst → IsBadEmbedded4 h m → ⊥
+pub fine_embedded : (h : Head4) (m : Icmp4) (inner : Inner4) → IsInner4 inner (embedded46 m) → inner.head.src ≡ h.dst → IsBadEmbedded4 h m → ⊥
 fine_embedded h m inner is answers (inl bad) = not_bad4 inner (embedded46 m) is bad
 fine_embedded h m inner is answers (inr (other, has, differs)) = differs (one_source other inner (embedded46 m) has is ∙ answers)
 
-one_proto : (n : ℕ) (p q : Proto) → proto4 n ≡ Some p → proto4 n ≡ Some q → q ≡ p
+pub one_proto : (n : ℕ) (p q : Proto) → proto4 n ≡ Some p → proto4 n ≡ Some q → q ≡ p
 one_proto n p q a b = cc
 
 -- a whole message that has a row, and embeds what it should where it is an error, has no cause

@@ -1,11 +1,11 @@
 -- A packet that carries something has none of the causes behind its headers.
-use Rattle.std.proofs.Common.{◌≡◌, ◌≢◌, ◌⊎◌, ◌<◌, ◌≤◌, ℕ, List, false, true, ⊎_elim, arith, sym, ◌∙◌, refl, ap, Some, None, inl, inr, length, subst}
-use Rattle.std.specs.Prelude.{Result, Ok, Err, IsTrue, IsErrAnd, IsSome, Option, Bool, not}
+use Rattle.std.proofs.Common.{◌≡◌, ◌<◌, ◌≤◌, ℕ, List, false, arith, sym, ◌∙◌, refl, ap, Some, None, inl, inr, length, subst}
+use Rattle.std.specs.Prelude.{Result, Ok, Err, IsSome, Option, Bool, not}
 use Rattle.std.proofs.lemmas.Grind.{common_steps}
-use Rattle.octets.specs.Cause.{IsLeast, number_of, cause_of}
+use Rattle.octets.specs.Cause.{IsLeast, number_of}
 use Rattle.octets.specs.Protocol.{proto6}
 use Rattle.octets.specs.declared.cause.Cause.{Cause}
-use Rattle.octets.specs.declared.cause.Cause.TheVariants.{NotIp, Truncated, BadHeader, BadHeaderSum, BadDestination, SourceRoute, UnsupportedProtocol, IcmpFragment, BadTransport, IcmpSum, IcmpKind, BadInner, NoUdpSum, NoBasicRule, WrongDestination, FragmentsFull, Spoofed, NotDefault, NoOwner, NoBinding, NoPort, TtlSpent, TooBig}
+use Rattle.octets.specs.declared.cause.Cause.TheVariants.{SourceRoute, UnsupportedProtocol, IcmpFragment, BadTransport, IcmpSum, IcmpKind, BadInner, NoUdpSum}
 use Rattle.octets.specs.declared.cause.Fault.{Fault}
 use Rattle.octets.specs.declared.cause.Fault.TheVariants.{Drop, NoMemory}
 use Rattle.octets.specs.declared.proto.Proto.{Proto}
@@ -14,13 +14,11 @@ use Rattle.ip6_packet.specs.declared.head.Head6.{Head6}
 use Rattle.icmp_messages.specs.declared.icmp6.Icmp6.{Icmp6}
 use Rattle.icmp_messages.specs.declared.inner6.Inner6.{Inner6}
 use Rattle.icmp_messages.specs.Message.{IsIcmp6, IsShort, IsWrongSum6}
-use Rattle.icmp_messages.specs.Inner.{IsInner6, IsBadInner6}
+use Rattle.icmp_messages.specs.Inner.{IsInner6}
 use Rattle.icmp_xlat.specs.declared.table.Row.{Row}
 use Rattle.icmp_xlat.specs.Icmp64.{HasNoRow64, LacksPointer64, embedded64}
 use Rattle.icmp_xlat.specs.declared.table.Rest.TheVariants.{Query as QueryRest, Pointer}
 use Rattle.icmp_xlat.specs.Table.{table64, row_of}
-use Rattle.icmp_messages.specs.Inner.{IsCarried6, IsBadBehind6}
-use Rattle.ip6_packet.specs.Embedded.{HasHeaders6, LacksHeaders6}
 use Rattle.ip6_packet.specs.Grammar.{payload_of6}
 use Rattle.l4_headers.specs.Transport.{IsBadTransport}
 use Rattle.octets.specs.declared.address.Addr6.{Addr6}
@@ -31,13 +29,13 @@ use Rattle.packets.specs.declared.packet6.Content6.{Content6}
 use Rattle.packets.specs.declared.packet6.Content6.TheVariants.{Segment, Later, Query, Error}
 use Rattle.packets.specs.declared.packet6.Packet6.{Packet6}
 use Rattle.packets.specs.Behind6.{Behind6, IsFragment6, IsError6, IsAnswered6, IsBadEmbedded6}
-use Rattle.packets.specs.Packet6.{IsContent6, IsSegment6, IsLater6, IsMessage6, IsErrorOf6}
+use Rattle.packets.specs.Packet6.{IsContent6, IsMessage6}
 
 -- two embedded packets in the same octets have the same headers
 one_inner_head : (one other : Inner6) (octets : List ℕ) → IsInner6 one octets → IsInner6 other octets → other.head ≡ one.head
 one_inner_head one other octets a b = same_headers6 other.head one.head octets b.headers a.headers
 
-no_left : (left : Option ℕ) → left ≡ None → IsSome left → ⊥
+pub no_left : (left : Option ℕ) → left ≡ None → IsSome left → ⊥
 no_left left none some = cc
 
 -- two messages in the same octets are one
@@ -54,7 +52,7 @@ udp_alone n proto is protocol = grind (arith, common_steps)
 icmp_is : (n : ℕ) (proto : Proto) → n ≡ 58 → proto6 n ≡ Some proto → proto ≡ Icmp
 icmp_is n proto is protocol = icmp_alone n proto is protocol
 
-no_bad_message : (payload : List ℕ) {src dst : Addr6} {m : Icmp6} (proto : Proto) (whole : Bool) → IsIcmp6 src dst m payload → proto ≡ Icmp → IsBadTransport proto payload whole → ⊥
+pub no_bad_message : (payload : List ℕ) {src dst : Addr6} {m : Icmp6} (proto : Proto) (whole : Bool) → IsIcmp6 src dst m payload → proto ≡ Icmp → IsBadTransport proto payload whole → ⊥
 no_bad_message payload Tcp whole is icmp bad = cc
 no_bad_message payload Udp whole is icmp bad = cc
 no_bad_message payload Icmp whole is icmp (inl short) = omega (arith, is.stands, short)
@@ -66,7 +64,7 @@ long_message payload Udp whole long icmp bad = cc
 long_message payload Icmp whole long icmp (inl short) = omega (arith, long, short)
 long_message payload Icmp whole long icmp (inr bad) = bad.1
 
-one_row : (found : Option Row) (one other : Row) → found ≡ Some one → found ≡ Some other → other ≡ one
+pub one_row : (found : Option Row) (one other : Row) → found ≡ Some one → found ≡ Some other → other ≡ one
 one_row found one other a b = cc
 
 -- a query has a row
@@ -80,11 +78,11 @@ answered_too at_relay h inner other same answers = record {
 }
 
 -- an embedded packet that is read, and was sent from where the error goes, isn't bad
-fine_embedded : (at_relay : Bool) (h : Head6) (m : Icmp6) (inner : Inner6) → IsInner6 inner (embedded64 m) → IsAnswered6 at_relay h inner → IsBadEmbedded6 at_relay h m → ⊥
+pub fine_embedded : (at_relay : Bool) (h : Head6) (m : Icmp6) (inner : Inner6) → IsInner6 inner (embedded64 m) → IsAnswered6 at_relay h inner → IsBadEmbedded6 at_relay h m → ⊥
 fine_embedded at_relay h m inner is answers (inl bad) = let stands : 8 ≤ length (payload_of6 inner.head (embedded64 m)) = omega (arith, ap length is.payload, is.stands) in not_bad6 inner.head inner.proto (embedded64 m) is.headers stands is.first (rw is.payload at is.carried) bad
 fine_embedded at_relay h m inner is answers (inr (other, has, differs)) = differs (answered_too at_relay h inner other (one_inner_head inner other (embedded64 m) is has) answers)
 
-one_proto : (n : ℕ) (p q : Proto) → proto6 n ≡ Some p → proto6 n ≡ Some q → q ≡ p
+pub one_proto : (n : ℕ) (p q : Proto) → proto6 n ≡ Some p → proto6 n ≡ Some q → q ≡ p
 one_proto n p q a b = cc
 
 -- a whole message that has a row, and embeds what it should where it is an error, has no cause

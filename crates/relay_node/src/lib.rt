@@ -6,10 +6,12 @@ mod equal;
 mod from_access;
 mod from_ipv4;
 mod hop;
+mod laws;
 mod params;
 mod relay;
 
 pub use asked::{frag_of, stripe_of};
 pub use equal::equal_values_are_the_same;
 pub use hop::relay_hop;
+pub use laws::{each_packet_asks_the_relay_or_is_dropped, the_relay_has_one_hop};
 pub use params::RelayParams;

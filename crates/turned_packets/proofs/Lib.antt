@@ -1,3 +1,5 @@
 mod PutBack
 mod Standing
 mod RightSums
+mod EmbeddedSums
+mod ReadAgain

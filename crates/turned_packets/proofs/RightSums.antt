@@ -29,7 +29,7 @@ numbered : (n : ℕ) (proto : Proto) → proto4 n ≡ Some proto → 0 < n
 numbered n proto is = grind (arith, nat_tests)
 
 -- the words of the pseudo header change by those of the address
-balanced : (end : End) (addr : Addr4) (h : Head4) (len : ℕ) → len < 65536
+pub balanced : (end : End) (addr : Addr4) (h : Head4) (len : ℕ) → len < 65536
     → let there = with_address end addr h in
     words (pseudo_header4 there.src there.dst h.proto len) + words (in_quad (address_at end h).0) ≡ words (pseudo_header4 h.src h.dst h.proto len) + words (in_quad addr.0)
 balanced Source addr h len short = omega (arith, words-pseudo4 addr h.dst h.proto len short, words-pseudo4 h.src h.dst h.proto len short)

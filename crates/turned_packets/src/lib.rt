@@ -9,5 +9,8 @@ mod layout;
 mod segment;
 mod turned;
 
-pub use laws::{a_right_sum_stays_right_when_turned, a_turned_icmp_sum_is_right};
+pub use laws::{
+    a_right_embedded_sum_stays_right_when_turned, a_right_sum_stays_right_when_turned,
+    a_turned_embedded_packet_is_read_again, a_turned_icmp_sum_is_right,
+};
 pub use turned::{turned_in, turned_out};

@@ -1,5 +1,4 @@
-use Rattle.std.proofs.Common.{◌≡◌, refl, sym, None, inl}
-use Rattle.ip6_packet.specs.Grammar.{payload_of6}
+use Rattle.std.proofs.Common.{refl, None, inl}
 use Rattle.transit.specs.declared.exit.Exit.TheVariants.{ToAccess}
 use Rattle.transit.specs.Hop.{drops}
 use Rattle.edge_node.proofs.Parts.{on_ok, reply_to_access, unreadable}

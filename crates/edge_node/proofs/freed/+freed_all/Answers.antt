@@ -1,4 +1,4 @@
-use Rattle.std.proofs.Common.{◌≡◌, sym, ◌∙◌, ap, refl, subst}
+use Rattle.std.proofs.Common.{sym, ◌∙◌, ap, refl, subst}
 use Rattle.std.specs.Prelude.{List, ℕ}
 use Rattle.octets.specs.declared.parcel.Parcel.{Parcel}
 use Rattle.packet_faults.specs.declared.hop.Hop.{Hop}

@@ -1,4 +1,4 @@
-use Rattle.std.proofs.Common.{◌≡◌, sym, ◌∙◌, ap, refl, inr}
+use Rattle.std.proofs.Common.{sym, ◌∙◌, ap, refl, inr}
 use Rattle.transit.specs.Hop.{nothing}
 use Rattle.edge_node.proofs.Handed.{same_packet, refused_packet}
 use Rattle.edge_node.proofs.Parts.{then_nothing}

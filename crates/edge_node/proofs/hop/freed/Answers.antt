@@ -1,4 +1,4 @@
-use Rattle.std.proofs.Common.{◌≡◌, sym, ◌∙◌, refl, ap, length}
+use Rattle.std.proofs.Common.{sym, ◌∙◌, refl, ap, length}
 use Rattle.std.specs.Prelude.{List, ◌==◌}
 use Rattle.octets.specs.declared.parcel.Parcel.{Parcel}
 use Rattle.nat_model.specs.Waiting.{freed_of}

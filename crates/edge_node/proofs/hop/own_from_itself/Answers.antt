@@ -1,7 +1,6 @@
-use Rattle.std.proofs.Common.{◌≡◌, sym, ◌∙◌, ap, refl, inl, inr, ⊎_elim, [], None}
+use Rattle.std.proofs.Common.{◌≡◌, ◌∙◌, ap, inr, ⊎_elim, [], None}
 use Rattle.std.specs.Prelude.{Err}
 use Rattle.octets.specs.declared.cause.Cause.{Cause}
-use Rattle.nat_model.specs.declared.answer.Answer.{Answer}
 use Rattle.nat_model.specs.declared.answer.Answer.TheVariants.{Refused}
 use Rattle.transit.specs.declared.exit.Exit.TheVariants.{ToLan}
 use Rattle.transit.specs.Hop.{drops}

@@ -1,7 +1,6 @@
-use Rattle.std.proofs.Common.{◌≡◌, sym, ◌∙◌, ap, refl, inl, inr, ⊎_elim, []}
+use Rattle.std.proofs.Common.{◌≡◌, ◌∙◌, ap, inr, ⊎_elim, []}
 use Rattle.std.specs.Prelude.{Err}
 use Rattle.octets.specs.declared.cause.Cause.{Cause}
-use Rattle.nat_model.specs.declared.answer.Answer.{Answer}
 use Rattle.nat_model.specs.declared.answer.Answer.TheVariants.{Refused}
 use Rattle.edge_node.proofs.Handed.{never, refused_packet, same_refusal}
 use Rattle.edge_node.proofs.Parts.{on_ok}

@@ -1,4 +1,4 @@
-use Rattle.std.proofs.Common.{◌≡◌, ℕ, sym, ◌∙◌, ap, subst, refl}
+use Rattle.std.proofs.Common.{◌≡◌, ◌∙◌, ap, subst}
 use Rattle.octets.specs.declared.address.Addr4.{Addr4}
 use Rattle.icmp_xlat.specs.declared.ends.Ends.{Ends}
 use Rattle.packet_faults.specs.declared.hop.Hop.{Hop}

@@ -1,8 +1,5 @@
-use Rattle.std.proofs.Common.{◌≡◌, sym, ◌∙◌, ap, subst, refl}
-use Rattle.nat_model.specs.declared.answer.Answer.{Answer}
-use Rattle.packet_faults.specs.declared.hop.Hop.{Hop}
-use Rattle.transit.specs.Hop.{nothing, then}
-use Rattle.edge_node.specs.Hop.{FromLan}
+use Rattle.std.proofs.Common.{sym, refl}
+use Rattle.transit.specs.Hop.{nothing}
 use Rattle.edge_node.proofs.Parts.{on_ok, then_nothing}
 use Rattle.edge_node.proofs.outward.from_lan.Goals as goal
 

@@ -1,5 +1,4 @@
-use Rattle.std.proofs.Common.{◌≡◌, sym, ◌∙◌, ap, subst, refl}
-use Rattle.octets.specs.declared.cause.Cause.{Cause}
+use Rattle.std.proofs.Common.{◌≡◌, ◌∙◌, ap, subst}
 use Rattle.octets.specs.declared.address.Addr6.{Addr6}
 use Rattle.icmp_xlat.specs.declared.ends.Ends.{Ends}
 use Rattle.packet_faults.specs.declared.hop.Hop.{Hop}

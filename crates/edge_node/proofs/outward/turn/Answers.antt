@@ -1,6 +1,4 @@
-use Rattle.std.proofs.Common.{◌≡◌, ◌<◌, sym, ◌∙◌, ap, inr, arith, refl}
-use Rattle.octets.specs.declared.address.Addr4.{Addr4}
-use Rattle.std.specs.Prelude.{List, ℕ}
+use Rattle.std.proofs.Common.{ap, inr, arith}
 use Rattle.transit.specs.declared.exit.Exit.TheVariants.{ToItself}
 use Rattle.transit.specs.Hop.{sends}
 use Rattle.edge_node.proofs.Parts.{on_ok}

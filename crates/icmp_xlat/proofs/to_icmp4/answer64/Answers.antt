@@ -1,10 +1,10 @@
-use Rattle.std.proofs.Common.{◌≡◌, ℕ, sym, ◌∙◌, List, Some, Ok, Err, ap}
-use Rattle.std.specs.Prelude.{Option, IfOk}
+use Rattle.std.proofs.Common.{◌≡◌, ℕ, sym, ◌∙◌, List, Some, Ok, Err, ap, subst}
+use Rattle.std.specs.Prelude.{Option, IfOk, IsNone}
 use Rattle.octets.specs.declared.cause.Fault.{Fault}
 use Rattle.icmp_messages.specs.declared.icmp4.Icmp4.{Icmp4}
 use Rattle.icmp_xlat.specs.declared.table.Row.{Row}
 use Rattle.icmp_xlat.specs.Table.{row_of, table64}
-use Rattle.icmp_xlat.specs.Icmp64.{query64, error64, with_message64}
+use Rattle.icmp_xlat.specs.Icmp64.{query64, error64, with_message64, EmbedsOne64}
 use Rattle.icmp_xlat.proofs.to_icmp4.answer64.Goals as goal
 
 -- the rows of one list are one
@@ -14,7 +14,7 @@ same_row found one other a b = cc
 pub returns : goal.returns
 returns c =
     let row = c.in-Some.row in
-    let is_row : row_of table64 c.args.message.now.kind c.args.message.now.code ≡ Some row = sym c.row64.ensures ∙ c.in-Some.is in
+    let is_row : row_of table64 c.args.message.now.kind c.args.message.now.code ≡ Some row = c.in-Some.ensures.found in
     let made = c.in_ok-translated.ensures in
     let head = c.args.head.now in
     let ends = c.args.ends.now in
@@ -33,3 +33,15 @@ returns c =
   where
     never : (o : List ℕ) (f : Fault) → ◌≡◌ {A = Rattle.std.specs.Prelude.Result (List ℕ) Fault} (Ok o) (Err f) → ⊥
     never o f h = cc
+
+-- a message whose row was found has a translation, and so embeds a packet where it is no query
+pub translated64-requires : goal.translated64-requires
+translated64-requires c =
+    let row = c.in-Some.row in
+    record {
+      embeds = subst (λ (found : Option Row). EmbedsOne64 c.args.message.now found) c.in-Some.ensures.found
+          (c.requires.embeds (λ lacks. some_row row (c.in-Some.ensures.none.1 lacks)));
+    }
+  where
+    some_row : (row : Row) → IsNone (Some row) → ⊥
+    some_row row none = cc

@@ -10,8 +10,7 @@ use Rattle.ip6_packet.specs.Grammar.{payload_of6}
 use Rattle.icmp_messages.specs.declared.icmp6.Icmp6.{Icmp6}
 use Rattle.icmp_messages.specs.Message.{IsIcmp6}
 use Rattle.icmp_xlat.specs.declared.ends.Ends.{Ends}
-use Rattle.icmp_xlat.specs.Table.{row_of, table64}
-use Rattle.icmp_xlat.specs.Icmp64.{EmbedsOne64, IsAnswer64}
+use Rattle.icmp_xlat.specs.Icmp64.{MayEmbed64, IsAnswer64}
 use Rattle.icmp_xlat.proofs.to_icmp4.icmp64.Goals as goal
 
 pub answer64-requires-clause-embeds : goal.answer64-requires-clause-embeds
@@ -21,7 +20,7 @@ answer64-requires-clause-embeds c =
     let is_head : c.requires.head ≡ c.in-Ok.head = cc in
     let there : IsIcmp6 c.in-Ok.head.src c.in-Ok.head.dst c.requires.message c.payload.result.now = rw (c.payload.ensures, ← is_head) given.message in
     let is_message : c.in_ok-message.message ≡ c.requires.message = c.in_ok-message.ensures.only c.requires.message there in
-    subst (λ (m : Icmp6). EmbedsOne64 m (row_of table64 m.kind m.code)) (sym is_message) c.requires.embeds
+    subst (λ (m : Icmp6). MayEmbed64 m) (sym is_message) c.requires.embeds
 
 pub returns : goal.returns
 returns c = λ head m given.

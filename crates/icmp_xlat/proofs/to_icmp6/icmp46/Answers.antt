@@ -3,8 +3,7 @@ use Rattle.ip4_packet.specs.declared.head.Head4.{Head4}
 use Rattle.ip4_packet.specs.Grammar.{payload_of4}
 use Rattle.icmp_messages.specs.declared.icmp4.Icmp4.{Icmp4}
 use Rattle.icmp_messages.specs.Message.{IsIcmp4}
-use Rattle.icmp_xlat.specs.Table.{row_of, table46}
-use Rattle.icmp_xlat.specs.Icmp46.{EmbedsOne46, IsAnswer46}
+use Rattle.icmp_xlat.specs.Icmp46.{MayEmbed46, IsAnswer46}
 use Rattle.icmp_xlat.proofs.to_icmp6.icmp46.Goals as goal
 
 pub answer46-requires-clause-embeds : goal.answer46-requires-clause-embeds
@@ -14,7 +13,7 @@ answer46-requires-clause-embeds c =
     let is_head : c.requires.head ≡ c.in-Ok.head = cc in
     let there : IsIcmp4 c.requires.message c.payload.result.now = rw (c.payload.ensures, ← is_head) given.message in
     let is_message : c.in_ok-message.message ≡ c.requires.message = c.in_ok-message.ensures.only c.requires.message there in
-    subst (λ (m : Icmp4). EmbedsOne46 m (row_of table46 m.kind m.code)) (sym is_message) c.requires.embeds
+    subst (λ (m : Icmp4). MayEmbed46 m) (sym is_message) c.requires.embeds
 
 pub returns : goal.returns
 returns c = λ head m given.

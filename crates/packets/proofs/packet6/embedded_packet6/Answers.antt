@@ -1,4 +1,4 @@
-use Rattle.std.proofs.Common.{◌≡◌, ⊎_elim, inl, ap, Err, sym, ◌∙◌}
+use Rattle.std.proofs.Common.{⊎_elim, inl, ap, Err}
 use Rattle.octets.specs.declared.cause.Cause.TheVariants.{BadInner}
 use Rattle.packets.proofs.Faults.{same_fault, same_cause, no_cause}
 use Rattle.packets.proofs.packet6.embedded_packet6.Goals as goal

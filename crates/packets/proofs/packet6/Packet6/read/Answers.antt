@@ -1,4 +1,4 @@
-use Rattle.std.proofs.Common.{◌≡◌, ◌⊎◌, sym, refl, ap, ⊎_elim, inl, inr, Ok, Err, ◌∙◌}
+use Rattle.std.proofs.Common.{◌≡◌, ap, ⊎_elim, inl, inr, Err, ◌∙◌}
 use Rattle.octets.specs.Cause.{IsLeast}
 use Rattle.octets.specs.declared.cause.Cause.{Cause}
 use Rattle.octets.specs.declared.cause.Fault.TheVariants.{Drop, NoMemory}
