@@ -3,6 +3,8 @@ use Rattle.std.proofs.Common.{◌≡◌, ℕ, ◌-◌, ◌%◌, ◌^◌, ◌<◌
 use Rattle.std.specs.Prelude.{nat_le, is_some}
 use Rattle.std.proofs.lemmas.Bool.{cases_eq, ne_eqb, false≢true}
 use Rattle.std.proofs.lemmas.List.{places}
+use Rattle.octets.specs.declared.address.Addr4.{Addr4}
+use Rattle.octets.specs.declared.mtus.Mtus.{Mtus}
 use Rattle.ip4_packet.specs.declared.head.Head4.{Head4}
 use Rattle.ip4_packet.specs.Grammar.{payload_of4, Is4}
 use Rattle.ip4_packet.specs.Written.{written4}
@@ -15,6 +17,9 @@ use Rattle.ip6_packet.proofs.EmbeddedLemmas.{same_headers6, headers_of6}
 use Rattle.ip6_packet.proofs.WrittenLemmas.{written_is6}
 use Rattle.xlat46.specs.Head.{is_fragment, fragment_header, upper_protocol, translated as translated46}
 use Rattle.xlat64.specs.Head.{protocol_of, identification as identification64, dont_fragment as dont_fragment64, translated as translated64}
+use Rattle.icmp_xlat.specs.declared.ends.Ends.{Ends}
+use Rattle.packets.specs.declared.packet6.Content6.{Content6}
+use Rattle.packets.specs.declared.packet6.Content6.TheVariants.{Segment as Segment6, Later as Later6, Query as Query6, Error as Error6}
 use Rattle.packets.specs.declared.packet6.Packet6.{Packet6}
 use Rattle.packets.specs.Packet6.{IsPacket6, IsContent6}
 use Rattle.transit.specs.Passage64.{translation64}
@@ -125,6 +130,22 @@ laid_inside t octets over six at_relay q taken laid is =
     let inside : IsContent6 at_relay q.head over q.content = subst (λ (xs : List ℕ). IsContent6 at_relay q.head xs q.content) read.payload_is is.content in
     subst (λ (g : Head6). IsContent6 at_relay g over q.content) read.head inside
 
+-- A packet with a Fragment Header has its own identification, whatever other one the node gives.
+fixed_id : (mtus : Mtus) (head : Head6) (frag : Frag6) (payload : List ℕ) (ends : Ends Addr4) (id other : ℕ) (content : Content6)
+    → translation64 mtus (record head { frag = Some frag }) payload ends id content ≡ translation64 mtus (record head { frag = Some frag }) payload ends other content
+fixed_id mtus head frag payload ends id other (Segment6 proto l4) = refl
+fixed_id mtus head frag payload ends id other (Later6 proto) = refl
+fixed_id mtus head frag payload ends id other (Query6 m row) = refl
+fixed_id mtus head frag payload ends id other (Error6 m row inner) = refl
+
+pub numbered_as : (mtus : Mtus) (head : Head6) (payload : List ℕ) (ends : Ends Addr4) (id other : ℕ) (content : Content6) → (head.frag ≡ None → id ≡ other)
+    → translation64 mtus head payload ends id content ≡ translation64 mtus head payload ends other content
+numbered_as mtus head payload ends id other content same = by head.frag refl
+  where
+    by : (frag : Option Frag6) → head.frag ≡ frag → translation64 mtus head payload ends id content ≡ translation64 mtus head payload ends other content
+    by None e = ap (λ (n : ℕ). translation64 mtus head payload ends n content) (same e)
+    by (Some frag) e = subst (λ (f : Option Frag6). translation64 mtus (record head { frag = f }) payload ends id content ≡ translation64 mtus (record head { frag = f }) payload ends other content) (sym e) (fixed_id mtus head frag payload ends id other content)
+
 -- What the second node reads of it, and makes of it.
 pub record Between (t : Transfer) (at_relay : Bool) (q : Packet6) (over four : List ℕ) : Type 0 where
   pub inside : IsContent6 at_relay (head_there t (length over)) over q.content
@@ -136,7 +157,7 @@ between t octets over six four at_relay q taken laid back =
     let id = t.number % 2 ^ 16 in
     let head6 = head_there t (length over) in
     let read = laid_reads t octets over six at_relay q taken laid back.is in
-    let makes : translation64 t.mtus q.head over t.four id q.content ≡ Some four = subst (λ (xs : List ℕ). translation64 t.mtus q.head xs t.four id q.content ≡ Some four) read.payload_is back.back in
+    let makes : translation64 t.mtus q.head over t.four id q.content ≡ Some four = sym (numbered_as t.mtus q.head over t.four back.id id q.content back.numbered) ∙ subst (λ (xs : List ℕ). translation64 t.mtus q.head xs t.four back.id q.content ≡ Some four) read.payload_is back.back in
     let lasts : 1 < head6.hop = subst (λ (g : Head6). 1 < g.hop) read.head back.lasts in
     record {
       inside = laid_inside t octets over six at_relay q taken laid back.is;

@@ -6,12 +6,13 @@ use Rattle.octets.specs.declared.parcel.Parcel.{Parcel}
 use Rattle.octets.specs.declared.proto.Proto.{Proto}
 use Rattle.octets.specs.declared.proto.Proto.TheVariants.{Tcp, Udp, Icmp}
 use Rattle.ip6_packet.specs.declared.head.Head6.{Head6}
+use Rattle.ip6_packet.specs.declared.head.Frag6.{Frag6}
 use Rattle.ip6_packet.specs.Fragment.{fragment_offset}
 use Rattle.octets.specs.declared.address.Addr6.{Addr6}
 use Rattle.icmp_xlat.specs.declared.ends.Ends.{Ends}
 use Rattle.l4_headers.specs.declared.ports.L4.{L4}
 use Rattle.l4_headers.specs.Transport.{header_octets, l4_of}
-use Rattle.packet_faults.specs.Cut.{AreCut, cut_for, piece, piece_head, piece_payload, step_of}
+use Rattle.packet_faults.specs.Cut.{AreCut, cut_for, piece, piece_frag, piece_head, piece_payload, step_of}
 use Rattle.packets.specs.declared.packet4.Content4.{Content4}
 use Rattle.packets.specs.declared.packet4.Content4.TheVariants.{Segment as Segment4, Later as Later4, Query as Query4, Error as Error4}
 use Rattle.packets.specs.declared.packet6.Content6.{Content6}
@@ -27,7 +28,7 @@ use Rattle.crossing.proofs.Segment.{ReadsFlow, outer_segment, again_of, payload_
 use Rattle.crossing.proofs.Later.{later_laid}
 use Rattle.crossing.proofs.Piece.{l4_of-front}
 use Rattle.crossing.proofs.Cut.{cut_of, step_least, this_cut, piece_reads}
-use Rattle.crossing.proofs.Pieces.{place_of, cut_there}
+use Rattle.crossing.proofs.Pieces.{place_of, IsCutThere, cut_there}
 use Rattle.crossing.proofs.Uncut.{crosses, ReadsEnds, reads_ends, FlowIs, reads_flow}
 
 -- a piece that was found among them is that of its number
@@ -60,10 +61,10 @@ this_piece t octets over six at taken is laid =
 
 piece_crosses : (t : Transfer) (octets six four : List ℕ) (at : ℕ) (at_relay : Bool) (q : Packet6) → IsTakenAs t octets → IsPieceThere t at six → IsBack t at_relay q six four → ComesOf (crossing_of t) (piece_at at) four
 piece_crosses t octets six four at at_relay q taken is back =
-    let there = cut_there t octets is.octets is.flows taken is.id is.there back.ports in
-    let over : List ℕ = there.0 in
-    let whole : List ℕ = there.1 in
-    let cut = there.2 in
+    let for_all = cut_there t octets is.octets is.flows taken is.id is.there in
+    let over : List ℕ = for_all.0 in
+    let whole : List ℕ = for_all.1 t.four in
+    let cut : IsCutThere t is.octets over whole = for_all.2.there t.four back.ports in
     let this = this_piece t octets over six at taken is cut.laid in
     let one = cut.each is.cut.0 is.cut.1 four is.k at_relay q is.cut.2 this.inside (subst (λ (xs : List ℕ). IsBack t at_relay q xs four) this.is back) in
     subst (λ (n : ℕ). ComesOf (crossing_of t) (piece_at n) four) (sym is.begins) (record { whole = whole; sent = one.sent; named = one.named; octets_are = one.octets_are })
@@ -141,3 +142,14 @@ piece_seen t octets six at at_relay q taken is read_is = by t.taken.content refl
 pub seen : (t : Transfer) (octets six : List ℕ) (portion : Portion) (at_relay : Bool) (q : Packet6) → IsTakenAs t octets → IsSentThere t portion six → IsPacket6 at_relay q six → Seen t q
 seen t octets six uncut at_relay q taken there is = record { ends = reads_ends t octets six at_relay q taken there is; flow = inl (reads_flow t octets six at_relay q taken there is) }
 seen t octets six (piece_at at) at_relay q taken there is = piece_seen t octets six at at_relay q taken there is
+
+-- a piece has a Fragment Header
+pub piece_fragment : (t : Transfer) (octets six : List ℕ) (at : ℕ) (at_relay : Bool) (q : Packet6) → IsTakenAs t octets → IsPieceThere t at six → IsPacket6 at_relay q six → (frag : Frag6) × (q.head.frag ≡ Some frag)
+piece_fragment t octets six at at_relay q taken is read_is =
+    let for_all = cut_there t octets is.octets is.flows taken is.id is.there in
+    let over : List ℕ = for_all.0 in
+    let laid = for_all.2.laid in
+    let this = this_piece t octets over six at taken is laid in
+    let own : IsPacket6 at_relay q (piece (cut_of t over) (is.k * step_of t.mtus.mtu6)).bytes = subst (λ (xs : List ℕ). IsPacket6 at_relay q xs) this.is read_is in
+    let read = piece_reads t octets over is.octets is.cut.0 is.cut.1 is.k at_relay q taken is.id laid is.cut.2 this.inside own in
+    (piece_frag (cut_of t over) (is.k * step_of t.mtus.mtu6), ap (λ (h : Head6). h.frag) read.head)

@@ -3,29 +3,34 @@ use Rattle.std.proofs.Common.{◌≡◌, ◌≢◌, ◌⊎◌, ℕ, zero, suc, �
 use Rattle.std.proofs.Math.Nat.{mul-le-mul_right, mul-mod_left, mul_assoc}
 use Rattle.std.proofs.lemmas.Bool.{false≢true}
 use Rattle.octets.specs.Field.{part}
+use Rattle.octets.specs.declared.address.Addr4.{Addr4}
 use Rattle.octets.specs.declared.proto.Proto.{Proto}
 use Rattle.octets.specs.declared.proto.Proto.TheVariants.{Tcp, Udp, Icmp}
 use Rattle.ip4_packet.specs.Written.{written4}
 use Rattle.ip6_packet.specs.declared.head.Head6.{Head6}
 use Rattle.ip6_packet.specs.Fragment.{fragment_offset}
 use Rattle.l4_headers.specs.declared.ports.L4.{L4}
+use Rattle.l4_headers.specs.declared.ports.Ports.{Ports}
 use Rattle.l4_headers.specs.Transport.{header_octets, with_l4}
 use Rattle.l4_headers.specs.Readdressed.{readdressed_sum}
 use Rattle.xlat46.specs.Whole.{ArePorts}
 use Rattle.xlat64.specs.Whole.{Parts6, addresses_before, addresses_after, payload64, packet64}
 use Rattle.packet_faults.specs.Cut.{step_of, piece, piece_head, piece_payload, IsCuttable}
+use Rattle.icmp_xlat.specs.declared.ends.Ends.{Ends}
 use Rattle.packets.specs.declared.packet4.Content4.{Content4}
 use Rattle.packets.specs.declared.packet4.Content4.TheVariants.{Segment as Segment4, Later as Later4, Query as Query4, Error as Error4}
+use Rattle.packets.specs.declared.packet4.Packet4.{Packet4}
 use Rattle.packets.specs.declared.packet6.Content6.{Content6}
 use Rattle.packets.specs.declared.packet6.Packet6.{Packet6}
+use Rattle.packets.specs.Asked.{flow_of4}
 use Rattle.packets.specs.Packet6.{IsContent6}
 use Rattle.transit.specs.Passage46.{is_message4}
 use Rattle.transit.specs.Passage64.{translation64}
 use Rattle.crossing.specs.Named.{Named, Sent, IsPayload, piece_at}
-use Rattle.crossing.specs.Transfer.{Transfer, FitsPorts, IsTakenAs, IsThere, IsBack, crossing_of, content_with}
-use Rattle.crossing.proofs.Heads.{some_same, offset_there, head_there, Reads, IsLaid}
+use Rattle.crossing.specs.Transfer.{Transfer, FitsPorts, IsTakenAs, IsThere, IsBack, with_ends, crossing_of, packet_with, content_with}
+use Rattle.crossing.proofs.Heads.{some_same, offset_there, head_there, numbered_as, Reads, IsLaid}
 use Rattle.crossing.proofs.Contents.{one_segment, one_later}
-use Rattle.crossing.proofs.Segment.{payload_there, payload_back, sum_back, length_there, length_back, segment_laid, segment_is}
+use Rattle.crossing.proofs.Segment.{parts_back, payload_there, payload_back, sum_back, length_there, length_back, segment_laid, segment_is}
 use Rattle.crossing.proofs.Later.{later_laid}
 use Rattle.crossing.proofs.Piece.{l4_of-front, with_l4-front, with_l4-behind}
 use Rattle.crossing.proofs.Cut.{cut_of, step_least, piece_reads, piece_back, named_piece}
@@ -50,7 +55,7 @@ between_piece t at_relay q over at four read back =
     let head6 = piece_head (cut_of t over) at in
     let body = piece_payload (cut_of t over) at in
     let inside : IsContent6 at_relay q.head body q.content = subst (λ (xs : List ℕ). IsContent6 at_relay q.head xs q.content) read.payload_is back.is.content in
-    let makes : translation64 t.mtus q.head body t.four id q.content ≡ Some four = subst (λ (xs : List ℕ). translation64 t.mtus q.head xs t.four id q.content ≡ Some four) read.payload_is back.back in
+    let makes : translation64 t.mtus q.head body t.four id q.content ≡ Some four = sym (numbered_as t.mtus q.head body t.four back.id id q.content back.numbered) ∙ subst (λ (xs : List ℕ). translation64 t.mtus q.head xs t.four back.id q.content ≡ Some four) read.payload_is back.back in
     let lasts : 1 < head6.hop = subst (λ (g : Head6). 1 < g.hop) read.head back.lasts in
     record {
       inside = subst (λ (g : Head6). IsContent6 at_relay g body q.content) read.head inside;
@@ -172,39 +177,81 @@ pub record IsCutThere (t : Transfer) (six over whole : List ℕ) : Type 0 where
   pub each : (h : Head6) (payload four : List ℕ) (k : ℕ) (at_relay : Bool) (q : Packet6) → IsCuttable h payload six
       → k * step_of t.mtus.mtu6 < length over → IsBack t at_relay q (piece (cut_of t over) (k * step_of t.mtus.mtu6)).bytes four → ComesOfPiece t whole (k * step_of t.mtus.mtu6) four
 
-pub cut_there : (t : Transfer) (octets six : List ℕ) → is_message4 t.taken.content ≡ false → IsTakenAs t octets → t.taken.head.id < 65536 → IsThere t six → FitsPorts t.taken.content t.four.ports
-    → (over : List ℕ) × (whole : List ℕ) × IsCutThere t six over whole
-cut_there t octets six flows taken small there ports = by t.taken.content refl flows ports
+-- the ends of a packet, as far as its payload goes by them
+abbrev pub ends_of : Packet4 → Ends Addr4
+ends_of r = record { src = r.head.src; dst = r.head.dst; inner_src = r.head.src; inner_dst = r.head.dst; ports = (flow_of4 r.content).ports }
+
+-- The same for whatever ends the second node gives a piece. They change the transport header alone, and are those of the packet
+-- with what they replace.
+pub record IsCutFor (t : Transfer) (six over : List ℕ) (whole : Ends Addr4 → List ℕ) : Type 0 where
+  pub laid : IsLaid t over six
+  pub there : (ends : Ends Addr4) → FitsPorts t.taken.content ends.ports → IsCutThere (with_ends t ends) six over (whole ends)
+  pub behind : (ends : Ends Addr4) (at n : ℕ) → 20 ≤ at → part (whole ends) at n ≡ part over at n
+  pub alike : (ends : Ends Addr4) → whole (ends_of (packet_with ends t.taken)) ≡ whole ends
+
+with_taken : (t : Transfer) (octets : List ℕ) (ends : Ends Addr4) → IsTakenAs t octets → IsTakenAs (with_ends t ends) octets
+with_taken t octets ends taken = record { is = taken.is; payload = taken.payload; fits = taken.fits; inner = taken.inner; six = taken.six }
+
+segment_cut : (t : Transfer) (proto : Proto) (l4 : L4) (octets six : List ℕ) (ends : Ends Addr4) → t.taken.content ≡ Segment4 proto l4 → IsTakenAs t octets → t.taken.head.id < 65536 → IsThere t six → ArePorts ends.ports
+    → IsCutThere (with_ends t ends) six (payload_there t proto) (payload_back (with_ends t ends) proto)
+segment_cut t proto l4 octets six ends e taken small there are =
+    let u = with_ends t ends in
+    let same = with_taken t octets ends taken in
+    let laid = segment_laid u proto l4 octets six e same there in
+    let over = payload_there u proto in
+    let whole = payload_back u proto in
+    let step = step_of t.mtus.mtu6 in
+    record {
+      laid = laid.laid;
+      long = length_back u proto laid.carries.stands ∙ sym (length_there u proto laid.carries.stands);
+      carries = subst (λ (c : Content4). IsPayload (crossing_of u) c (content_with ends c) whole) (sym e) (segment_is u proto laid.carries are);
+      each = λ h payload four k at_relay q may inside back.
+          segment_at u proto l4 octets six four (k * step) at_relay q e same small there (place_of u over k inside) (piece_reads u octets over six h payload k at_relay q same small laid.laid may inside back.is) back are;
+    }
+
+later_cut : (t : Transfer) (proto : Proto) (octets six : List ℕ) (ends : Ends Addr4) → t.taken.content ≡ Later4 proto → IsTakenAs t octets → t.taken.head.id < 65536 → IsThere t six
+    → IsCutThere (with_ends t ends) six t.payload t.payload
+later_cut t proto octets six ends e taken small there =
+    let u = with_ends t ends in
+    let same = with_taken t octets ends taken in
+    let laid = later_laid u proto octets six e same there in
+    let over = t.payload in
+    let step = step_of t.mtus.mtu6 in
+    record {
+      laid = laid.laid;
+      long = refl;
+      carries = subst (λ (c : Content4). IsPayload (crossing_of u) c (content_with ends c) over) (sym e) refl;
+      each = λ h payload four k at_relay q may inside back.
+          later_at u proto octets six four (k * step) at_relay q e same small there (place_of u over k inside) (piece_reads u octets over six h payload k at_relay q same small laid.laid may inside back.is) back;
+    }
+
+pub cut_there : (t : Transfer) (octets six : List ℕ) → is_message4 t.taken.content ≡ false → IsTakenAs t octets → t.taken.head.id < 65536 → IsThere t six
+    → (over : List ℕ) × (whole : Ends Addr4 → List ℕ) × IsCutFor t six over whole
+cut_there t octets six flows taken small there = by t.taken.content refl flows
   where
-    by : (c : Content4) → t.taken.content ≡ c → is_message4 c ≡ false → FitsPorts c t.four.ports → (over : List ℕ) × (whole : List ℕ) × IsCutThere t six over whole
-    by (Segment4 proto l4) e fine are =
+    by : (c : Content4) → t.taken.content ≡ c → is_message4 c ≡ false → (over : List ℕ) × (whole : Ends Addr4 → List ℕ) × IsCutFor t six over whole
+    by (Segment4 proto l4) e fine =
         let laid = segment_laid t proto l4 octets six e taken there in
         let over = payload_there t proto in
-        let whole = payload_back t proto in
-        let step = step_of t.mtus.mtu6 in (
+        let long = length_there t proto laid.carries.stands in (
           over,
-          whole,
+          λ ends. payload_back (with_ends t ends) proto,
           record {
             laid = laid.laid;
-            long = length_back t proto laid.carries.stands ∙ sym (length_there t proto laid.carries.stands);
-            carries = subst (λ (c : Content4). IsPayload (crossing_of t) c (content_with t.four c) whole) (sym e) (segment_is t proto laid.carries are);
-            each = λ h payload four k at_relay q may inside back.
-                segment_at t proto l4 octets six four (k * step) at_relay q e taken small there (place_of t over k inside) (piece_reads t octets over six h payload k at_relay q taken small laid.laid may inside back.is) back are;
+            there = λ ends are. segment_cut t proto l4 octets six ends e taken small there (subst (λ (c : Content4). FitsPorts c ends.ports) e are);
+            behind = λ ends at n far. with_l4-behind proto over ends.ports (sum_back (with_ends t ends) proto) at n laid.carries.there.no_icmp (omega (arith, long, laid.carries.stands)) far;
+            alike = λ ends. ap (λ (ports : Ports). payload64 (parts_back t proto) ends.src ends.dst (Some ports)) (ap (λ (c : Content4). (flow_of4 (content_with ends c)).ports) e);
           },
         )
-    by (Later4 proto) e fine are =
-        let laid = later_laid t proto octets six e taken there in
-        let over = t.payload in
-        let step = step_of t.mtus.mtu6 in (
-          over,
-          over,
-          record {
-            laid = laid.laid;
-            long = refl;
-            carries = subst (λ (c : Content4). IsPayload (crossing_of t) c (content_with t.four c) over) (sym e) refl;
-            each = λ h payload four k at_relay q may inside back.
-                later_at t proto octets six four (k * step) at_relay q e taken small there (place_of t over k inside) (piece_reads t octets over six h payload k at_relay q taken small laid.laid may inside back.is) back;
-          },
-        )
-    by (Query4 m row) e fine are = absurd (false≢true (sym fine))
-    by (Error4 m row inner) e fine are = absurd (false≢true (sym fine))
+    by (Later4 proto) e fine = (
+      t.payload,
+      λ ends. t.payload,
+      record {
+        laid = (later_laid t proto octets six e taken there).laid;
+        there = λ ends are. later_cut t proto octets six ends e taken small there;
+        behind = λ ends at n far. refl;
+        alike = λ ends. refl;
+      },
+    )
+    by (Query4 m row) e fine = absurd (false≢true (sym fine))
+    by (Error4 m row inner) e fine = absurd (false≢true (sym fine))

@@ -1,12 +1,12 @@
 -- The definitions, computed on ICMP errors about a UDP packet of the home to 198.51.100.7:53.
-use Rattle.std.proofs.Common.{◌≡◌, ◌*◌, ◌^◌, false, [], ◌∷◌, Some, refl}
+use Rattle.std.proofs.Common.{◌≡◌, ℕ, ◌*◌, ◌^◌, ◌∙◌, false, List, [], ◌∷◌, Some, refl, sym}
 use Rattle.octets.specs.declared.proto.Proto.TheVariants.{Udp}
 use Rattle.octets.specs.declared.address.Addr4.{Addr4}
 use Rattle.octets.specs.declared.mtus.Mtus.{Mtus}
 use Rattle.icmp_messages.specs.declared.inner4.Inner4.{Inner4}
 use Rattle.icmp_xlat.specs.declared.table.Rest.TheVariants.{Pointer}
 use Rattle.crossing.specs.Nat44.{inner_from}
-use Rattle.crossing.specs.Named.{inner_after, rest_after}
+use Rattle.crossing.specs.Named.{Crossing, Sent, Named, Portion, inner_after, rest_after}
 
 abbrev home : Addr4
 home = record { 0 = 0xc0a8010a }
@@ -38,3 +38,8 @@ a_pointer_comes_back mtus = refl
 
 pub a_pointer_is_coarser : (mtus : Mtus) → rest_after mtus 30 (3 * 2 ^ 24) Pointer ≡ Some (2 * 2 ^ 24)
 a_pointer_is_coarser mtus = refl
+
+-- Of a packet that was sent only what was replaced for it makes its name: with the answers of two pieces exchanged, which have other
+-- hosts, the law on pieces would be false.
+pub one_destination : (x y : Crossing) (one other : Portion) (whole payload : List ℕ) (r : Sent) → Named x one whole r → Named y other payload r → x.replaced.head.dst ≡ y.replaced.head.dst
+one_destination x y one other whole payload r is also = sym is.dst ∙ also.dst

@@ -1,6 +1,6 @@
 -- A packet that one node translates to IPv6 and a second one translates back, between the ends that each of them gives it,
 -- and in what it then may differ.
-use Rattle.std.specs.Prelude.{◌≡◌, ℕ, ◌*◌, ◌%◌, ◌^◌, ◌<◌, Bool, false, true, List, slice_get, Some}
+use Rattle.std.specs.Prelude.{◌≡◌, ℕ, ◌*◌, ◌%◌, ◌^◌, ◌<◌, Bool, false, true, List, slice_get, Some, None}
 use Rattle.octets.specs.declared.address.Addr4.{Addr4}
 use Rattle.octets.specs.declared.address.Addr6.{Addr6}
 use Rattle.octets.specs.declared.mtus.Mtus.{Mtus}
@@ -102,13 +102,20 @@ abbrev pub IsSentThere : Transfer → Portion → List ℕ → Type 0
 IsSentThere t uncut six = IsThere t six
 IsSentThere t (piece_at at) six = IsPieceThere t at six
 
--- The second node takes these octets as this packet, whose hop limit lasts, and translates it to those, with the number of
--- the record as the identification of a packet that has none.
+-- The second node takes these octets as this packet, whose hop limit lasts, and translates it to those, with an identification
+-- of its own for packets that have none. It is the number of the record where the packet has no Fragment Header. A fragment
+-- and a piece keep theirs, and so may go on with another record.
 pub record IsBack (t : Transfer) (at_relay : Bool) (q : Packet6) (six four : List ℕ) : Type 0 where
   pub is : IsPacket6 at_relay q six
   pub lasts : 1 < q.head.hop
   pub ports : FitsPorts t.taken.content t.four.ports
-  pub back : translation64 t.mtus q.head (payload_of6 q.head six) t.four (t.number % 2 ^ 16) q.content ≡ Some four
+  pub id : ℕ
+  pub numbered : q.head.frag ≡ None → id ≡ t.number % 2 ^ 16
+  pub back : translation64 t.mtus q.head (payload_of6 q.head six) t.four id q.content ≡ Some four
+
+-- the same packet between other ends over IPv4
+abbrev pub with_ends : Transfer → Ends Addr4 → Transfer
+with_ends t ends = record t { four = ends }
 
 -- the crossing, and what comes of it where nothing but the named header changes differs
 abbrev pub crossing_of : Transfer → Crossing

@@ -1,10 +1,11 @@
 -- Which IPv4 address stands behind an IPv6 address that a node accepts, and behind those that nodes send to and from.
-use Rattle.std.proofs.Common.{◌≡◌, ◌⊎◌, ℕ, suc, ◌+◌, ◌-◌, ◌/◌, ◌^◌, ◌<◌, ◌≤◌, Bool, true, false, cond, List, [], ◌∷◌, Option, Some, None, inl, inr, refl, sym, ap, ◌∙◌, subst, arith}
+use Rattle.std.proofs.Common.{◌≡◌, ◌⊎◌, ℕ, suc, ◌+◌, ◌*◌, ◌-◌, ◌/◌, ◌^◌, ◌<◌, ◌≤◌, Bool, true, false, cond, List, [], ◌∷◌, Option, Some, None, inl, inr, refl, sym, ap, ◌∙◌, subst, arith}
 use Rattle.std.specs.Prelude.{◌==◌, ◌&&◌, ◌||◌, nat_le, nat_lt, unwrap_or}
 use Rattle.std.specs.Option.{option_map_or, option_or}
 use Rattle.std.specs.List.{All, filter}
 use Rattle.std.proofs.Math.Bool.{or-true}
-use Rattle.std.proofs.lemmas.Nat.{shr-shr}
+use Rattle.std.proofs.Math.Nat.{div-lt_iff_lt-mul}
+use Rattle.std.proofs.lemmas.Nat.{shr-shr, pow_pos}
 use Rattle.std.proofs.lemmas.Bool.{false≢true}
 use Rattle.std.proofs.lemmas.List.Elements.{All-filter}
 use Rattle.std.proofs.lemmas.Bool.Decides.{nat_tests}
@@ -16,8 +17,9 @@ use Rattle.map_rules.specs.declared.dmr.Dmr.{Dmr}
 use Rattle.map_rules.specs.Address.{carried_addr, carried_psid}
 use Rattle.map_rules.specs.Embedding.{embedded, extract_of}
 use Rattle.map_rules.specs.Rule.{psid_len, has_address, rule_address, source_of, IsSource, ce6_of, edge_address, edge_psid}
+use Rattle.map_rules.proofs.Parts.{power}
 use Rattle.map_rules.proofs.Embedded.{embedded-inside}
-use Rattle.map_rules.proofs.Rules.{source-addr, edge-has, edge-psid-small, source-ce6, address-inside}
+use Rattle.map_rules.proofs.Rules.{source-addr, edge-has, edge-psid-small, source-ce6, address-inside, address-small}
 use Rattle.map_rules.proofs.Sources.{extract_of-found, extract_of-exactly}
 use Rattle.rule_book.specs.declared.view.FarOf.TheVariants.{Addr, Spoofed, NotDefault}
 use Rattle.rule_book.specs.Far.{has_addr6, far_of, far_by_rule, far_under, far_with, far_embedded}
@@ -28,6 +30,7 @@ use Rattle.nat_model.specs.Remote.{reached}
 use Rattle.nat_model.specs.State.{Generation}
 use Rattle.trace_text.specs.Answered.{AreRulesOf}
 use Rattle.trace_text.specs.Behind.{ipv4_behind}
+use Rattle.trace_text.specs.Numbers.{FitsRule}
 
 -- ---- what is accepted
 
@@ -180,6 +183,33 @@ embedded_holds dmr addr fits = by (has_addr6 dmr.prefix (embedded dmr.prefix.bit
     by : (b : Bool) → b ≡ true → cond b (extract_of dmr.prefix.bits dmr.prefix.len (embedded dmr.prefix.bits dmr.prefix.len addr)) (Some (carried_addr (embedded dmr.prefix.bits dmr.prefix.len addr))) ≡ Some addr
     by true _ = extract_of-found dmr.prefix.bits dmr.prefix.len (embedded dmr.prefix.bits dmr.prefix.len addr) addr (record { valid = dmr.valid; clear = dmr.prefix.clear }) fits refl
     by false e = absurd (false≢true e)
+
+-- ---- numbers of 128 bits
+
+below_power : (x y m n : ℕ) → x / 2 ^ m ≡ y / 2 ^ m → y < 2 ^ (n + m) → x < 2 ^ (n + m)
+below_power x y m n same small =
+    let width : 2 ^ (n + m) ≡ 2 ^ n * 2 ^ m = power (n + m) n m (omega arith) in
+    let low : y / 2 ^ m < 2 ^ n = (div-lt_iff_lt-mul (pow_pos m)).1 (subst (λ (w : ℕ). y < w) width small) in
+    subst (λ (w : ℕ). x < w) (sym width) ((div-lt_iff_lt-mul (pow_pos m)).0 (subst (λ (q : ℕ). q < 2 ^ n) (sym same) low))
+
+pub embedded_small : (dmr : Dmr) (addr : ℕ) → dmr.prefix.bits < 2 ^ 128 → addr < 2 ^ 32 → embedded dmr.prefix.bits dmr.prefix.len addr < 2 ^ 128
+embedded_small dmr addr small fits =
+    let inside = embedded-inside dmr.prefix.bits dmr.prefix.len addr dmr.valid dmr.prefix.clear fits in
+    let all : dmr.prefix.len + (128 - dmr.prefix.len) ≡ 128 = omega (arith, dmr.prefix.within) in
+    subst (λ (n : ℕ). embedded dmr.prefix.bits dmr.prefix.len addr < 2 ^ n) all
+    (below_power (embedded dmr.prefix.bits dmr.prefix.len addr) dmr.prefix.bits (128 - dmr.prefix.len) dmr.prefix.len (sym inside) (subst (λ (n : ℕ). dmr.prefix.bits < 2 ^ n) (sym all) small))
+
+pub owned_small : (rules : List Rule) (addr port s : ℕ) → addr < 2 ^ 32 → All FitsRule rules → owner_of rules addr port ≡ Some s → s < 2 ^ 128
+owned_small [] addr port s fits fit e = cc
+owned_small (r ∷ rules) addr port s fits fit e = by (ce6_of r addr port) refl (owned_small rules addr port s fits (other_rules FitsRule r rules fit)) e
+  where
+    by : (o : Option ℕ) → ce6_of r addr port ≡ o → (owner_of rules addr port ≡ Some s → s < 2 ^ 128) → option_or o (owner_of rules addr port) ≡ Some s → s < 2 ^ 128
+    by None is later found = later found
+    by (Some x) is later found =
+        let same : x ≡ s = cc in
+        let source = (source-ce6 r x addr port fits is).0 in
+        let small = address-small r addr _ (first_rule FitsRule r rules fit).prefix6 fits source.psid in
+        subst (λ (n : ℕ). n < 2 ^ 128) (source.whole ∙ same) small
 
 -- what is embedded in an address is what stands behind it
 pub extracted_holds : (dmr : Dmr) (s addr : ℕ) → extract_of dmr.prefix.bits dmr.prefix.len s ≡ Some addr → ipv4_behind dmr s ≡ Some addr

@@ -7,10 +7,12 @@ use Rattle.octets.specs.declared.address.Addr6.{Addr6}
 use Rattle.octets.specs.declared.mtus.Mtus.{Mtus}
 use Rattle.octets.specs.declared.parcel.Parcel.{Parcel}
 use Rattle.octets.specs.declared.proto.Proto.{Proto}
+use Rattle.ip4_packet.specs.declared.head.Head4.{Head4}
 use Rattle.ip4_packet.specs.Grammar.{payload_of4}
 use Rattle.ip6_packet.specs.Grammar.{payload_of6}
 use Rattle.l4_headers.specs.declared.ports.Ports.{Ports}
 use Rattle.xlat46.specs.Head.{is_fragment}
+use Rattle.xlat46.specs.Whole.{ArePorts}
 use Rattle.map_rules.specs.declared.dmr.Dmr.{Dmr}
 use Rattle.rule_book.specs.declared.view.FarOf.{FarOf}
 use Rattle.rule_book.specs.declared.view.FarOf.TheVariants.{Addr, Spoofed, NotDefault}
@@ -28,14 +30,14 @@ use Rattle.packets.specs.declared.packet6.Content6.{Content6}
 use Rattle.packets.specs.declared.packet6.Content6.TheVariants.{Later as Later6}
 use Rattle.packets.specs.declared.packet6.Packet6.{Packet6}
 use Rattle.packets.specs.Packet6.{IsPacket6}
-use Rattle.packets.specs.Asked.{flow_of4, flow_of6}
+use Rattle.packets.specs.Asked.{no_ports, flow_of4, flow_of6}
 use Rattle.transit.specs.declared.passage.Passage.{Passage}
 use Rattle.transit.specs.declared.passage.Passage.TheVariants.{Sent, Cut, Spent, TooBig}
-use Rattle.transit.specs.Passage46.{IsPassage46, is_message4}
+use Rattle.transit.specs.Passage46.{IsPassage46, translation46, is_message4}
 use Rattle.transit.specs.Passage64.{translation64}
 use Rattle.edge_node.specs.Ends.{ends_out, ends_in, with_far_port}
 use Rattle.edge_node.specs.Asked.{near_addr6}
-use Rattle.relay_node.specs.Relay.{Relay, source_port, source_addr, address_in, embedded_in}
+use Rattle.relay_node.specs.Relay.{Relay, source_port, destination_port, source_addr, address_in, embedded_in}
 use Rattle.relay_node.specs.FromAccess.{ends64}
 use Rattle.relay_node.specs.FromIpv4.{ends46, far_end}
 use Rattle.crossing.specs.Nat44.{packet_from, packet_to, content_from, content_to}
@@ -46,10 +48,11 @@ use Rattle.crossing.proofs.Over.{Seen, seen, over_crosses}
 use Rattle.crossing.proofs.Uncut.{FlowIs}
 use Rattle.trace_text.specs.Answered.{Step, AreRulesOf, AnsweredOut, AnsweredIn, rules_of_step}
 use Rattle.trace_text.specs.Behind.{ipv4_behind}
-use Rattle.trace_text.specs.Hops.{IsTaken4, FitsAnswer, EdgeSends, EdgeReceives, IsEmitted}
-use Rattle.trace_text.specs.Crossings.{Passed, Setting, id_of, ToRelay, FromRelay, EdgeAnswer, EdgeToEdge, IsOneStep, crossing_with}
+use Rattle.trace_text.specs.Numbers.{FitBook, FitsAnswer}
+use Rattle.trace_text.specs.Hops.{IsTaken4, EdgeSends, EdgeReceives, IsEmitted, RelaySends, ArePortsOf4}
+use Rattle.trace_text.specs.Crossings.{Passed, Setting, IsNumbered, ToRelay, FromRelay, EdgeAnswer, EdgeToEdge, IsOneStep, crossing_with}
 use Rattle.trace_text.proofs.Machine.{way_out, way_in}
-use Rattle.trace_text.proofs.Addresses.{accepted, holder_holds, embedded_holds, extracted_holds, reached_holds, one_behind}
+use Rattle.trace_text.proofs.Addresses.{accepted, holder_holds, embedded_holds, embedded_small, owned_small, extracted_holds, reached_holds, one_behind}
 use Rattle.trace_text.proofs.Fits.{head_fits, id_fits, src_fits, dst_fits, ports_fit, content_fits, FitsWithin, within}
 use Rattle.trace_text.proofs.Ports.{near_fits, Replaces, PortsAre, InnerOut, InnerIn, InnerBoth, source_given, destination_given, both_given, read_near, read_far}
 
@@ -121,11 +124,9 @@ transfer setting c six four = record {
 taken_as : (setting : Setting) (c : Passed) (six : Ends Addr6) (four : Ends Addr4) → IsTaken4 c.taken c.octets → FitsEnds six → IsTakenAs (transfer setting c six four) c.octets
 taken_as setting c six four taken fits = record { is = taken.is; payload = refl; fits = head_fits c.taken.head c.octets taken.are taken.is.is.fields; inner = content_fits c.taken.content c.taken.head.dst (within c.taken c.octets taken); six = fits }
 
-pub back_with : (mtus domain_mtus : Mtus) (id domain_id : ℕ) (q : Packet6) (six four : List ℕ) (ends : Ends Addr4) → mtus ≡ domain_mtus → id ≡ domain_id
-    → translation64 mtus q.head (payload_of6 q.head six) ends id q.content ≡ Some four → translation64 domain_mtus q.head (payload_of6 q.head six) ends domain_id q.content ≡ Some four
-back_with mtus domain_mtus id domain_id q six four ends one other is =
-    subst (λ (n : ℕ). translation64 domain_mtus q.head (payload_of6 q.head six) ends n q.content ≡ Some four) other
-    (subst (λ (m : Mtus). translation64 m q.head (payload_of6 q.head six) ends id q.content ≡ Some four) one is)
+pub back_with : (mtus domain_mtus : Mtus) (id : ℕ) (q : Packet6) (six four : List ℕ) (ends : Ends Addr4) → mtus ≡ domain_mtus
+    → translation64 mtus q.head (payload_of6 q.head six) ends id q.content ≡ Some four → translation64 domain_mtus q.head (payload_of6 q.head six) ends id q.content ≡ Some four
+back_with mtus domain_mtus id q six four ends one is = subst (λ (m : Mtus). translation64 m q.head (payload_of6 q.head six) ends id q.content ≡ Some four) one is
 
 -- what goes over the access network is the packet, or one of its pieces
 pub not_rigid : (a b : Bool) → (a || b) ≡ false → b ≡ false
@@ -173,13 +174,18 @@ over setting c six four is = sent_there (transfer setting c six four) c.passage 
 sees : (setting : Setting) (c : Passed) (six : Ends Addr6) (four : Ends Addr4) (at_relay : Bool) → IsThrough setting c six → IsPacket6 at_relay c.read c.six → Seen (transfer setting c six four) c.read
 sees setting c six four at_relay is arrives = seen (transfer setting c six four) c.octets c.six c.portion at_relay c.read (taken_as setting c six four is.taken is.fits) (over setting c six four is) arrives
 
--- what the second node did, between these ends over IPv4
-comes_of : (setting : Setting) (c : Passed) (six : Ends Addr6) (four : Ends Addr4) (at_relay : Bool) (src dst : Addr4) (content : Content4) → IsThrough setting c six → IsPacket6 at_relay c.read c.six → 1 < c.read.head.hop
-    → translation64 setting.mtus c.read.head (payload_of6 c.read.head c.six) four (id_of setting) c.read.content ≡ Some c.four
+-- what the second node did, with this identification, between these ends over IPv4
+record IsOn (setting : Setting) (c : Passed) (at_relay : Bool) (id : ℕ) : Type 0 where
+  arrives : IsPacket6 at_relay c.read c.six
+  numbered : IsNumbered setting c.read id
+  lasts : 1 < c.read.head.hop
+
+comes_of : (setting : Setting) (c : Passed) (six : Ends Addr6) (four : Ends Addr4) (at_relay : Bool) (id : ℕ) (src dst : Addr4) (content : Content4) → IsThrough setting c six → IsOn setting c at_relay id
+    → translation64 setting.mtus c.read.head (payload_of6 c.read.head c.six) four id c.read.content ≡ Some c.four
     → four.src ≡ src → four.dst ≡ dst → Replaces c.taken.content four content → ComesOf (crossing_with setting c (record { head = record c.taken.head { src = src; dst = dst }; content = content })) c.portion c.four
-comes_of setting c six four at_relay src dst content is arrives lasts makes is_src is_dst replaces =
+comes_of setting c six four at_relay id src dst content is on makes is_src is_dst replaces =
     let t = transfer setting c six four in
-    let back : IsBack t at_relay c.read c.six c.four = record { is = arrives; lasts = lasts; ports = replaces.fits; back = makes } in
+    let back : IsBack t at_relay c.read c.six c.four = record { is = on.arrives; lasts = on.lasts; ports = replaces.fits; id = id; numbered = on.numbered; back = makes } in
     let comes = over_crosses t c.octets c.six c.four c.portion at_relay c.read (taken_as setting c six four is.taken is.fits) (over setting c six four is) back in
     subst (λ (r : Packet4). ComesOf (crossing_with setting c r) c.portion c.four) (replaced_is c.taken four src dst content is_src is_dst replaces.is) comes
 
@@ -279,15 +285,16 @@ to_relay setting step (Out from port src6 dst6 freed) relay c is =
     let destination : ipv4_behind setting.dmr dst6.0 ≡ Some got.dst.0 = subst (λ (d : Dmr). ipv4_behind d dst6.0 ≡ Some got.dst.0) is.relay_is.dmr (subst (λ (a : Addr6). ipv4_behind relay.dmr a.0 ≡ Some got.dst.0) saw.ends.dst (extracted_holds relay.dmr q.head.dst.0 got.dst.0 got.destination)) in
     let src = one_behind setting.dmr src6.0 got.src from source holds.source in
     let dst = one_behind setting.dmr dst6.0 got.dst p.head.dst destination holds.destination in
-    let makes = back_with relay.params.mtus setting.mtus relay.id (id_of setting) q c.six c.four plain is.relay_is.mtus is.relay_is.id got.is.1 in
+    let makes = back_with relay.params.mtus setting.mtus relay.id q c.six c.four plain is.relay_is.mtus got.is.1 in
+    let on : IsOn setting c true relay.id = record { arrives = is.arrives; numbered = is.numbered; lasts = got.is.0 } in
     record {
       replaced = packet_from from port p;
       by_answers = refl;
       comes = elim saw.flow [
-        | inl flow ↦ comes_of setting c six plain true from p.head.dst (content_from from port p.content) through is.arrives got.is.0 makes src dst
+        | inl flow ↦ comes_of setting c six plain true relay.id from p.head.dst (content_from from port p.content) through on makes src dst
             (source_given p.content port from plain is.fits.0 are (read_near p.content port src6 dst6 q.content got.ports flow got.flow) (inner_out p.content plain from p.head.dst inside dst src))
-        | inr later ↦ comes_of setting c six given true from p.head.dst (content_from from port p.content) through is.arrives got.is.0
-            (later_back setting.mtus (id_of setting) q c.six c.four got.src got.dst got.dst got.src given.inner_src given.inner_dst got.ports six.ports later.0 later.1 makes) src dst (source_given p.content port from given is.fits.0 are (ports_same p.content six.ports) (out_given p.content given from refl refl))
+        | inr later ↦ comes_of setting c six given true relay.id from p.head.dst (content_from from port p.content) through on
+            (later_back setting.mtus relay.id q c.six c.four got.src got.dst got.dst got.src given.inner_src given.inner_dst got.ports six.ports later.0 later.1 makes) src dst (source_given p.content port from given is.fits.0 are (ports_same p.content six.ports) (out_given p.content given from refl refl))
       ];
     }
 to_relay setting step (Turn from port freed) relay c is = absurd is.sent
@@ -312,8 +319,63 @@ peer_told setting step q to port from peer freed rules answered =
     let way = way_in step.prefix step.state step.moment answered.fault answered.proto answered.port answered.dst q.head.src (near_addr6 q q.content) answered.far_port answered.flags answered.part freed to port from peer answered.is in
     behind_holds (rules_of_step step) setting.dmr (near_addr6 q q.content).0 way.port peer rules.fixed way.far_is
 
-passage_with : (mtus domain_mtus : Mtus) (p : Packet4) (payload : List ℕ) (ends : Ends Addr6) (passage : Passage) → mtus ≡ domain_mtus → IsPassage46 mtus p payload ends passage → IsPassage46 domain_mtus p payload ends passage
-passage_with mtus domain_mtus p payload ends passage same is = subst (λ (m : Mtus). IsPassage46 m p payload ends passage) same is
+-- a later fragment has no ports, whatever those of its flow
+abbrev pub own_ports : Content4 → Ports → Ports
+own_ports (Later proto) ports = no_ports
+own_ports content ports = ports
+
+-- so it is translated without
+with_own : (content : Content4) (mtus : Mtus) (head : Head4) (payload : List ℕ) (ends : Ends Addr6)
+    → translation46 mtus head payload (record ends { ports = own_ports content ends.ports }) content ≡ translation46 mtus head payload ends content
+with_own (Segment proto l4) mtus head payload ends = refl
+with_own (Later proto) mtus head payload ends = refl
+with_own (Query m row) mtus head payload ends = refl
+with_own (Error m row inner) mtus head payload ends = refl
+
+own_passage : (mtus : Mtus) (p : Packet4) (payload : List ℕ) (ends : Ends Addr6) (passage : Passage) → IsPassage46 mtus p payload ends passage
+    → IsPassage46 mtus p payload (record ends { ports = own_ports p.content ends.ports }) passage
+own_passage mtus p payload ends Spent is = is
+own_passage mtus p payload ends (Sent octets) is = (is.0, with_own p.content mtus p.head payload ends ∙ is.1, is.2)
+own_passage mtus p payload ends (Cut pieces) is = (is.0, (is.1.0, with_own p.content mtus p.head payload ends ∙ is.1.1, is.1.2, is.1.3, is.1.4))
+own_passage mtus p payload ends TooBig is = (is.0, (is.1.0, with_own p.content mtus p.head payload ends ∙ is.1.1, is.1.2, is.1.3))
+
+pub relay_passage : (relay : Relay) (mtus : Mtus) (p : Packet4) (octets : List ℕ) (own : Addr6) (ports : Ports) (passage : Passage) → relay.params.mtus ≡ mtus
+    → IsPassage46 relay.params.mtus p (payload_of4 p.head octets) (ends46 relay p own ports) passage
+    → IsPassage46 mtus p (payload_of4 p.head octets) (ends46 relay p own (own_ports p.content ports)) passage
+relay_passage relay mtus p octets own ports passage same is =
+    own_passage mtus p (payload_of4 p.head octets) (ends46 relay p own ports) passage (subst (λ (m : Mtus). IsPassage46 m p (payload_of4 p.head octets) (ends46 relay p own ports) passage) same is)
+
+pub own_flow : (content : Content4) (ports : Ports) → ArePortsOf4 content ports → ArePortsOf4 content (own_ports content ports)
+own_flow (Segment proto l4) ports flow = flow
+own_flow (Later proto) ports flow = λ first. absurd (first proto refl)
+own_flow (Query m row) ports flow = flow
+own_flow (Error m row inner) ports flow = flow
+
+-- the ends that the relay gives fit their fields
+far_small : (content : Content4) (src dst : Addr4) → FitsWithin content dst → src.0 < 2 ^ 32 → (far_end src content).0 < 2 ^ 32
+far_small (Segment proto l4) src dst inside small = small
+far_small (Later proto) src dst inside small = small
+far_small (Query m row) src dst inside small = small
+far_small (Error m row inner) src dst inside small = inside.0.dst
+
+own_fit : (content : Content4) (ports : Ports) → ArePorts (flow_of4 content).ports → ArePortsOf4 content ports → ArePorts (own_ports content ports)
+own_fit (Segment proto l4) ports are flow = subst (λ (p : Ports). ArePorts p) (sym (flow (λ other later. cc))) are
+own_fit (Later proto) ports are flow = are
+own_fit (Query m row) ports are flow = subst (λ (p : Ports). ArePorts p) (sym (flow (λ other later. cc))) are
+own_fit (Error m row inner) ports are flow = subst (λ (p : Ports). ArePorts p) (sym (flow (λ other later. cc))) are
+
+pub relay_ends_fit : (relay : Relay) (p : Packet4) (octets : List ℕ) (passage : Passage) → FitBook relay.rules relay.dmr → IsTaken4 p octets → (sent : RelaySends relay p octets passage)
+    → FitsEnds (ends46 relay p sent.own (own_ports p.content sent.ports))
+relay_ends_fit relay p octets passage fit taken sent =
+    let src = src_fits p.head octets taken.are taken.is.is.fields in
+    let own = owned_small relay.rules p.head.dst.0 (destination_port (flow_of4 p.content).fault sent.ports) sent.own.0 (dst_fits p.head octets taken.are taken.is.is.fields) fit.each sent.owned in
+    record {
+      src = embedded_small relay.dmr p.head.src.0 fit.default src;
+      dst = own;
+      inner_src = own;
+      inner_dst = embedded_small relay.dmr (far_end p.head.src p.content).0 fit.default (far_small p.content p.head.src p.head.dst (within p octets taken) src);
+      ports = own_fit p.content sent.ports (ports_fit p octets taken) sent.flow;
+    }
 
 pub from_relay : (setting : Setting) (relay : Relay) (step : Step) (answer : Answer) (c : Passed) → FromRelay setting relay step answer c → IsOneStep setting (answer ∷ []) c
 from_relay setting relay step (In to port from peer freed) c is =
@@ -321,25 +383,28 @@ from_relay setting relay step (In to port from peer freed) c is =
     let q = c.read in
     let flow4 = flow_of4 p.content in
     let ports = is.sent.ports in
-    let six = ends46 relay p is.sent.own ports in
+    let six = ends46 relay p is.sent.own (own_ports p.content ports) in
     let plain = ends_in (flow_of6 q.content) to port from peer in
-    let given : Ends Addr4 = record { src = from; dst = to; inner_src = to; inner_dst = far_inner p.content to; ports = with_far_port flow4.proto flow4.fault port ports } in
+    let given : Ends Addr4 = record { src = from; dst = to; inner_src = to; inner_dst = far_inner p.content to; ports = with_far_port flow4.proto flow4.fault port six.ports } in
     let inside = within p c.octets is.taken in
-    let through : IsThrough setting c six = record { taken = is.taken; fits = is.sent.fits; passage = passage_with relay.params.mtus setting.mtus p (payload_of4 p.head c.octets) six c.passage is.relay_is.mtus is.sent.is; emitted = is.emitted } in
+    let ends = relay_ends_fit relay p c.octets c.passage is.relay_fits is.taken is.sent in
+    let through : IsThrough setting c six = record { taken = is.taken; fits = ends; passage = relay_passage relay setting.mtus p c.octets is.sent.own ports c.passage is.relay_is.mtus is.sent.is; emitted = is.emitted } in
     let saw = sees setting c six plain false through is.arrives in
     let small = src_fits p.head c.octets is.taken.are is.taken.is.is.fields in
     let told : ipv4_behind setting.dmr (embedded_in relay.dmr p.head.src).0 ≡ Some from.0 = subst (λ (a : Addr6). ipv4_behind setting.dmr a.0 ≡ Some from.0) saw.ends.src (from_told setting step q to port from peer freed is.rules is.answered) in
     let holds : ipv4_behind setting.dmr (embedded_in relay.dmr p.head.src).0 ≡ Some p.head.src.0 = subst (λ (d : Dmr). ipv4_behind d (embedded_in relay.dmr p.head.src).0 ≡ Some p.head.src.0) is.relay_is.dmr (embedded_holds relay.dmr p.head.src.0 small) in
     let src = one_behind setting.dmr (embedded_in relay.dmr p.head.src).0 from p.head.src told holds in
     let makes = is.received.1 in
+    let on : IsOn setting c false is.id = record { arrives = is.arrives; numbered = is.numbered; lasts = is.received.0 } in
+    let own = own_flow p.content ports is.sent.flow in
     record {
       replaced = packet_to to port p;
       by_answers = refl;
       comes = elim saw.flow [
-        | inl flow ↦ comes_of setting c six plain false p.head.src to (content_to to port p.content) through is.arrives is.received.0 makes src refl
-            (destination_given p.content ports port to plain is.fits is.sent.fits.ports is.sent.flow (read_far p.content six port q.content flow) (inner_in setting.dmr relay p.content p.head.src p.head.dst peer to six plain q is.relay_is.dmr refl flow inside (peer_told setting step q to port from peer freed is.rules is.answered) refl refl))
-        | inr later ↦ comes_of setting c six given false p.head.src to (content_to to port p.content) through is.arrives is.received.0
-            (later_back setting.mtus (id_of setting) q c.six c.four from to to peer to given.inner_dst plain.ports given.ports later.0 later.1 makes) src refl (destination_given p.content ports port to given is.fits is.sent.fits.ports is.sent.flow (ports_same p.content given.ports) (in_given p.content given to refl refl))
+        | inl flow ↦ comes_of setting c six plain false is.id p.head.src to (content_to to port p.content) through on makes src refl
+            (destination_given p.content six.ports port to plain is.fits ends.ports own (read_far p.content six port q.content flow) (inner_in setting.dmr relay p.content p.head.src p.head.dst peer to six plain q is.relay_is.dmr refl flow inside (peer_told setting step q to port from peer freed is.rules is.answered) refl refl))
+        | inr later ↦ comes_of setting c six given false is.id p.head.src to (content_to to port p.content) through on
+            (later_back setting.mtus is.id q c.six c.four from to to peer to given.inner_dst plain.ports given.ports later.0 later.1 makes) src refl (destination_given p.content six.ports port to given is.fits ends.ports own (ports_same p.content given.ports) (in_given p.content given to refl refl))
       ];
     }
 from_relay setting relay step (Out from port src6 dst6 freed) c is = absurd is.received
@@ -352,7 +417,7 @@ pub edge_to_edge : (setting : Setting) (one other : EdgeAnswer) (c : Passed) →
 edge_to_edge setting one other c is = by one.answer other.answer is.out is.fits_out is.sent is.inward is.fits_in is.received
   where
     by : (out inward : Answer) → AnsweredOut one.step c.taken.head.dst out → FitsAnswer out → EdgeSends setting.mtus out c.taken c.octets c.passage
-        → AnsweredIn other.step c.read.head.src (near_addr6 c.read c.read.content) inward → FitsAnswer inward → EdgeReceives setting.mtus (id_of setting) inward c.read c.six (Sent c.four)
+        → AnsweredIn other.step c.read.head.src (near_addr6 c.read c.read.content) inward → FitsAnswer inward → EdgeReceives setting.mtus is.id inward c.read c.six (Sent c.four)
         → IsOneStep setting (out ∷ inward ∷ []) c
     by (Out out_from out_port src6 dst6 out_freed) (In to port from peer freed) answered fits sent answered_in fits_in received =
         let p = c.taken in
@@ -369,14 +434,15 @@ edge_to_edge setting one other c is = by one.answer other.answer is.out is.fits_
         let src = one_behind setting.dmr src6.0 from out_from told holds.source in
         let content = content_to to port (content_from out_from out_port p.content) in
         let makes = received.1 in
+        let on : IsOn setting c false is.id = record { arrives = is.arrives; numbered = is.numbered; lasts = received.0 } in
         record {
           replaced = packet_to to port (packet_from out_from out_port p);
           by_answers = refl;
           comes = elim saw.flow [
-            | inl flow ↦ comes_of setting c six plain false out_from to content through is.arrives received.0 makes src refl
+            | inl flow ↦ comes_of setting c six plain false is.id out_from to content through on makes src refl
                 (both_given p.content out_port port out_from to plain fits.0 fits_in are (read_far p.content six port q.content flow) (inner_both setting.dmr p.content out_from peer to six plain q holds.source flow (peer_told setting other.step q to port from peer freed is.rules_in answered_in) refl refl))
-            | inr later ↦ comes_of setting c six given false out_from to content through is.arrives received.0
-                (later_back setting.mtus (id_of setting) q c.six c.four from to to peer to out_from plain.ports given.ports later.0 later.1 makes) src refl (both_given p.content out_port port out_from to given fits.0 fits_in are (ports_same p.content given.ports) (both_ends p.content given out_from to refl refl))
+            | inr later ↦ comes_of setting c six given false is.id out_from to content through on
+                (later_back setting.mtus is.id q c.six c.four from to to peer to out_from plain.ports given.ports later.0 later.1 makes) src refl (both_given p.content out_port port out_from to given fits.0 fits_in are (ports_same p.content given.ports) (both_ends p.content given out_from to refl refl))
           ];
         }
     by (Out out_from out_port src6 dst6 out_freed) (Out from port src dst freed) answered fits sent answered_in fits_in received = absurd received

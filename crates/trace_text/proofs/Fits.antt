@@ -1,6 +1,6 @@
 -- Numbers that are read of octets fit their fields.
 use Rattle.std.proofs.Common.{◌≡◌, ℕ, suc, ◌+◌, ◌*◌, ◌-◌, ◌/◌, ◌%◌, ◌^◌, ◌<◌, Bool, true, false, cond, List, take, drop, sym, subst, arith}
-use Rattle.std.specs.Prelude.{◌==◌}
+use Rattle.std.specs.Prelude.{◌==◌, not, ◌&&◌, ◌||◌}
 use Rattle.std.proofs.lemmas.List.{places}
 use Rattle.octets.specs.Field.{word, quad, part}
 use Rattle.octets.specs.declared.proto.Proto.{Proto}
@@ -23,6 +23,23 @@ use Rattle.packets.specs.declared.packet4.Packet4.{Packet4}
 use Rattle.packets.specs.Asked.{flow_of4}
 use Rattle.packets.specs.Packet4.{IsContent4, IsErrorOf4}
 use Rattle.crossing.specs.Transfer.{FitsHead, FitsContent}
+use Rattle.icmp_messages.specs.declared.icmp6.Icmp6.{Icmp6}
+use Rattle.icmp_messages.specs.declared.inner6.Inner6.{Inner6}
+use Rattle.icmp_messages.specs.Inner.{IsInner6}
+use Rattle.icmp_xlat.specs.Icmp64.{embedded64}
+use Rattle.ip6_packet.specs.declared.head.Head6.{Head6}
+use Rattle.ip6_packet.specs.Grammar.{payload_of6}
+use Rattle.nat_model.specs.declared.ask.Ask.{Ask}
+use Rattle.packets.specs.declared.asked.Flow.{Flow}
+use Rattle.packets.specs.declared.packet6.Content6.{Content6}
+use Rattle.packets.specs.declared.packet6.Content6.TheVariants.{Segment as Segment6, Later as Later6, Query as Query6, Error as Error6}
+use Rattle.packets.specs.declared.packet6.Packet6.{Packet6}
+use Rattle.packets.specs.Asked.{flow_of6}
+use Rattle.packets.specs.Packet6.{IsPacket6, IsContent6}
+use Rattle.edge_node.specs.declared.way.Way.{Way}
+use Rattle.edge_node.specs.declared.way.Way.TheVariants.{Lan, Access, Turned}
+use Rattle.edge_node.specs.Asked.{near_port, other_port, IsAsk}
+use Rattle.trace_text.specs.Numbers.{FitsAsk}
 use Rattle.trace_text.specs.Hops.{AreOctets, IsTaken4}
 
 word_fits : (xs : List ℕ) (at : ℕ) → AreOctets xs → word xs at < 65536
@@ -120,3 +137,48 @@ content_fits (Segment proto l4) dst is = tt
 content_fits (Later proto) dst is = tt
 content_fits (Query m row) dst is = tt
 content_fits (Error m row inner) dst is = is.0.head
+
+-- ---- the same over IPv6
+
+embedded_octets6 : (m : Icmp6) (payload : List ℕ) → AreOctets payload → m.body ≡ drop 8 payload → AreOctets (embedded64 m)
+embedded_octets6 m payload are is = by ((m.kind == 1 || m.kind == 3) && not (m.rest / 2 ^ 24 == 0))
+  where
+    body : AreOctets m.body
+    body = subst (λ (xs : List ℕ). AreOctets xs) (sym is) (drop_octets payload 8 are)
+
+    by : (b : Bool) → AreOctets (cond b (take (8 * (m.rest / 2 ^ 24)) m.body) m.body)
+    by true = take_octets m.body (8 * (m.rest / 2 ^ 24)) body
+    by false = body
+
+inner_ports6 : (inner : Inner6) (octets : List ℕ) → AreOctets octets → IsInner6 inner octets → ArePorts inner.ports
+inner_ports6 inner octets are is =
+    subst (λ (p : Ports). ArePorts p) (sym is.ports) (l4_ports inner.proto inner.payload (subst (λ (xs : List ℕ). AreOctets xs) (sym is.payload) (part_octets octets inner.head.start inner.head.length are)))
+
+content_ports6 : (at_relay : Bool) (h : Head6) (payload : List ℕ) (content : Content6) → AreOctets payload → IsContent6 at_relay h payload content → ArePorts (flow_of6 content).ports
+content_ports6 at_relay h payload (Segment6 proto l4) are has = subst (λ (l : L4). ArePorts l.ports) (sym has.header) (l4_ports proto payload are)
+content_ports6 at_relay h payload (Later6 proto) are has = (omega arith, omega arith)
+content_ports6 at_relay h payload (Query6 m row) are has =
+    let rest : m.rest < 2 ^ 32 = omega (arith, has.0.message.rest, quad_fits payload 4 are) in
+    (high_fits m.rest rest, high_fits m.rest rest)
+content_ports6 at_relay h payload (Error6 m row inner) are has = inner_ports6 inner (embedded64 m) (embedded_octets6 m payload are has.message.message.body) has.embedded
+
+pub ports_fit6 : (at_relay : Bool) (q : Packet6) (octets : List ℕ) → AreOctets octets → IsPacket6 at_relay q octets → ArePorts (flow_of6 q.content).ports
+ports_fit6 at_relay q octets are packet = content_ports6 at_relay q.head (payload_of6 q.head octets) q.content (part_octets octets q.head.start q.head.length are) packet.content
+
+-- ---- asks
+
+near_and_other : (flow : Flow) → ArePorts flow.ports → ArePorts (record { src = near_port flow; dst = other_port flow })
+near_and_other flow are = by flow.fault
+  where
+    by : (b : Bool) → ArePorts (record { src = cond b flow.ports.dst flow.ports.src; dst = cond b flow.ports.src flow.ports.dst })
+    by true = (are.1, are.0)
+    by false = are
+
+pub ask_fits : (way : Way) (octets : List ℕ) (ask : Ask) → AreOctets octets → IsAsk way octets ask → FitsAsk ask
+ask_fits Lan octets ask are is =
+    let p = is.0 in
+    subst FitsAsk (sym is.2) (record { ports = near_and_other (flow_of4 p.content) (ports_fit p octets (record { is = is.1; are = are })); far = dst_fits p.head octets are is.1.is.fields })
+ask_fits Access octets ask are is = subst FitsAsk (sym is.2) (record { ports = near_and_other (flow_of6 (is.0).content) (ports_fit6 false is.0 octets are is.1); far = tt })
+ask_fits Turned octets ask are is =
+    let p = is.0 in
+    subst FitsAsk (sym is.2) (record { ports = near_and_other (flow_of4 p.content) (ports_fit p octets (record { is = is.1; are = are })); far = tt })

@@ -5,5 +5,9 @@ pub mod Ports
 pub mod Directions
 pub mod Whole
 pub mod Relayed
+pub mod Numbers
+pub mod Answering
+pub mod Onward
+pub mod Hops
 pub mod Computed
 pub mod Trials

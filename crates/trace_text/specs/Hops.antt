@@ -1,6 +1,6 @@
 -- What each of two nodes does with a packet that crosses: the first takes it over IPv4, from its LAN or from the core, and sends it
 -- over the access network; the second takes it there and sends it on over IPv4.
-use Rattle.std.specs.Prelude.{◌≡◌, ℕ, ◌*◌, ◌<◌, ◌^◌, List, slice_get, Some}
+use Rattle.std.specs.Prelude.{◌≡◌, ℕ, ◌*◌, ◌<◌, List, slice_get, Some}
 use Rattle.octets.specs.Field.{octet}
 use Rattle.octets.specs.declared.address.Addr4.{Addr4}
 use Rattle.octets.specs.declared.address.Addr6.{Addr6}
@@ -30,7 +30,6 @@ use Rattle.relay_node.specs.Relay.{Relay, source_port, destination_port, source_
 use Rattle.relay_node.specs.FromAccess.{ends64}
 use Rattle.relay_node.specs.FromIpv4.{ends46}
 use Rattle.crossing.specs.Named.{Portion, uncut, piece_at}
-use Rattle.crossing.specs.Transfer.{FitsEnds}
 
 -- octets of a packet
 abbrev pub AreOctets : List ℕ → Type 0
@@ -47,12 +46,6 @@ ArePortsOf4 content ports = ((proto : Proto) → content ≡ Later4 proto → �
 
 abbrev pub ArePortsOf6 : Content6 → Ports → Type 0
 ArePortsOf6 content ports = ((proto : Proto) → content ≡ Later6 proto → ⊥) → ports ≡ (flow_of6 content).ports
-
--- numbers of an answer fit their fields
-abbrev pub FitsAnswer : Answer → Type 0
-FitsAnswer (Out from port src6 dst6 freed) = (port < 65536) × (src6.0 < 2 ^ 128) × (dst6.0 < 2 ^ 128)
-FitsAnswer (In to port from peer freed) = port < 65536
-FitsAnswer _ = ⊥
 
 -- by the answer of its machine an edge sends the packet out, or takes one in
 abbrev pub EdgeSends : Mtus → Answer → Packet4 → List ℕ → Passage → Type 0
@@ -79,7 +72,6 @@ pub record RelaySends (relay : Relay) (p : Packet4) (octets : List ℕ) (passage
   pub flow : ArePortsOf4 p.content ports
   pub own : Addr6
   pub owned : own_of relay p.head.dst (destination_port (flow_of4 p.content).fault ports) ≡ Some own.0
-  pub fits : FitsEnds (ends46 relay p own ports)
   pub is : IsPassage46 relay.params.mtus p (payload_of4 p.head octets) (ends46 relay p own ports) passage
 
 pub record RelayReceives (relay : Relay) (q : Packet6) (six : List ℕ) (passage : Passage) : Type 0 where

@@ -1,7 +1,9 @@
 pub mod Answered
 pub mod Behind
+pub mod Numbers
 pub mod Hops
 pub mod Crossings
 pub mod Pieces
 pub mod Relayed
 pub mod Emitted
+pub mod Onward

@@ -2,4 +2,4 @@ use Rattle.trace_text.proofs.Whole.{pieces_to_relay}
 use Rattle.trace_text.proofs.laws.pieces_to_the_relay_arrive_whole.Goals as goal
 
 pub returns : goal.returns
-returns k = λ setting edge c replaced is e. pieces_to_relay setting edge c replaced is e
+returns k = λ setting edge sent_as c is. pieces_to_relay setting edge sent_as c is
