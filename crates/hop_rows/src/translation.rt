@@ -1,6 +1,6 @@
 //! TCP and UDP packets, translated as a whole.
 
-ghost use Rattle.std.specs.Prelude.{IsTrue, List, ℕ};
+ghost use Rattle.std.specs.Prelude.{IsTrue, false, List, ℕ};
 ghost use Rattle.packets.specs.Packet4.{IsPacket4};
 ghost use Rattle.packets.specs.Packet6.{IsPacket6};
 ghost use Rattle.xlat46.specs.Whole.{IsAccepted46};
@@ -21,20 +21,41 @@ const LASTING: u8 = 2;
 /// The most octets behind an IPv4 header.
 const MOST_PAYLOAD: u16 = 65_515;
 
+/// Whether ports are given exactly where the IPv4 packet has some, and its TTL lasts.
+fn may_pass46(packet: &Packet4, ports: Option<Ports>) -> bool
+    ensures { IsTrue result → (octets : List ℕ) → IsPacket4 packet.now octets → IsAccepted46 octets ports }
+{
+    if packet.head.ttl < LASTING {
+        return false;
+    }
+    match (&packet.content, ports) {
+        (Content4::Segment { .. }, Some(_)) => true,
+        (Content4::Later { .. }, None) => true,
+        _ => false,
+    }
+}
+
 /// Whether the IPv4 packet in these octets may be translated with these ports.
 fn is_accepted46(alloc: Global, octets: &[u8], ports: Option<Ports>) -> bool
     ensures { IsTrue result → IsAccepted46 octets.now ports }
 {
     match Packet4::read(alloc, octets) {
-        Ok(packet) => {
-            let has_ports = match packet.content {
-                Content4::Segment { .. } => ports.is_some(),
-                Content4::Later { .. } => ports.is_none(),
-                Content4::Query { .. } | Content4::Error { .. } => return false,
-            };
-            has_ports && packet.head.ttl >= LASTING
-        }
+        Ok(packet) => may_pass46(&packet, ports),
         Err(_) => false,
+    }
+}
+
+/// Whether ports are given exactly where the IPv6 packet has some, its hop limit lasts, and IPv4 has room for it.
+fn may_pass64(packet: &Packet6, ports: Option<Ports>) -> bool
+    ensures { IsTrue result → (octets : List ℕ) → IsPacket6 false packet.now octets → IsAccepted64 octets ports }
+{
+    if packet.head.hop < LASTING || packet.head.length > MOST_PAYLOAD {
+        return false;
+    }
+    match (&packet.content, ports) {
+        (Content6::Segment { .. }, Some(_)) => true,
+        (Content6::Later { .. }, None) => true,
+        _ => false,
     }
 }
 
@@ -43,14 +64,7 @@ fn is_accepted64(alloc: Global, octets: &[u8], ports: Option<Ports>) -> bool
     ensures { IsTrue result → IsAccepted64 octets.now ports }
 {
     match Packet6::read(alloc, octets, false) {
-        Ok(packet) => {
-            let has_ports = match packet.content {
-                Content6::Segment { .. } => ports.is_some(),
-                Content6::Later { .. } => ports.is_none(),
-                Content6::Query { .. } | Content6::Error { .. } => return false,
-            };
-            has_ports && packet.head.hop >= LASTING && packet.head.length <= MOST_PAYLOAD
-        }
+        Ok(packet) => may_pass64(&packet, ports),
         Err(_) => false,
     }
 }
