@@ -1,5 +1,5 @@
 -- The octets of options that are read are those of what is read.
-use Rattle.std.proofs.Common.{◌≡◌, ℕ, zero, suc, ◌+◌, ◌-◌, ◌*◌, ◌/◌, ◌%◌, ◌^◌, ◌<◌, ◌≤◌, Bool, true, false, List, [], ◌∷◌, ◌++◌, length, get_or, take, drop, map, replicate, refl, sym, ap, ◌∙◌, arith, append_assoc, inl, inr, ltb, Some, None, leb, ◌&&◌}
+use Rattle.std.proofs.Common.{◌≡◌, ℕ, zero, suc, ◌+◌, ◌-◌, ◌*◌, ◌/◌, ◌%◌, ◌^◌, ◌<◌, ◌≤◌, Bool, true, false, List, [], ◌∷◌, ◌++◌, length, get_or, take, drop, map, replicate, refl, sym, ap, ◌∙◌, arith, append_assoc, inl, inr, ltb, Some, None, leb, cond, ◌&&◌}
 use Rattle.std.proofs.lemmas.List.{length-append, length-replicate, take-append-drop, length-take-le, append-nil, nil_from_length, drop-drop, drop-replicate}
 use Rattle.std.proofs.lemmas.Bool.{cases_Bool}
 use Rattle.std.specs.List.{sum_by}
@@ -21,7 +21,7 @@ use Rattle.s46_options.specs.Options.{DhcpOption, spelled, spelled_all, Cut, sta
 use Rattle.s46_options.specs.Items.{octets_for, prefix_octets, params_octets, sub_option, rule_octets, dmr_octets}
 use Rattle.s46_options.specs.declared.fault.OptionFault.{OptionFault}
 use Rattle.s46_options.specs.declared.fault.OptionFault.TheVariants.{Padding, BadLength}
-use Rattle.s46_options.specs.Faults.{when, leaves_over, too_long, place_behind, each_faults, all_faults, prefix_number, padding, zero_octets, first}
+use Rattle.s46_options.specs.Faults.{Judge, leaves_over, too_long, place_behind, each_faults, all_faults, prefix_number, padding, zero_octets, first}
 use Rattle.s46_options.proofs.Numbers.{AreOctets, octets_append, octets_zeros, octets_drop, octets_take, bytes_again}
 use Rattle.s46_options.proofs.Cuts.{whole_len, cut_stops, cut_goes}
 
@@ -221,9 +221,10 @@ psid_read bits len fits most =
 cons_not_nil : (x : OptionFault) (xs : List OptionFault) → x ∷ xs ≡ [] → ⊥
 cons_not_nil x xs h = cc
 
-when_not : (b : Bool) (f : OptionFault) → when b f ≡ [] → b ≡ false
-when_not true f h = absurd (cons_not_nil f [] h)
-when_not false f h = refl
+not_long : (b : Bool) (begun : List OptionFault) (f : OptionFault) → cond b (begun ++ f ∷ []) [] ≡ [] → b ≡ false
+not_long true [] f h = absurd (cons_not_nil f [] h)
+not_long true (g ∷ gs) f h = absurd (cons_not_nil g (gs ++ f ∷ []) h)
+not_long false begun f h = refl
 
 short_left : (n : ℕ) → (leb 1 n && ltb n 4) ≡ false → leb 4 n ≡ false → n ≡ 0
 short_left n used short =
@@ -238,12 +239,12 @@ no_second [] b h = h
 no_second (x ∷ xs) b h = absurd (cons_not_nil x (xs ++ b) h)
 
 -- options in which nothing is wrong leave nothing
-pub none_left : (judge : ℕ → List DhcpOption → DhcpOption → List OptionFault) (at : ℕ) (parts : Cut) → leaves_over parts ≡ false → all_faults judge at parts ≡ [] → parts.left ≡ []
+pub none_left : (judge : Judge) (at : ℕ) (parts : Cut) → leaves_over parts ≡ false → all_faults judge at parts ≡ [] → parts.left ≡ []
 none_left judge at parts used sound =
-    let long = no_second (each_faults judge at [] parts.options) (too_long (place_behind at parts.options) parts.left) sound in
-    nil_from_length parts.left (short_left (length parts.left) used (when_not (leb 4 (length parts.left)) (BadLength (place_behind at parts.options + 2)) long))
+    let long = no_second (each_faults judge.whole at [] parts.options) (too_long judge (place_behind at parts.options) parts.options parts.left) sound in
+    nil_from_length parts.left (short_left (length parts.left) used (not_long (leb 4 (length parts.left)) (judge.begun (place_behind at parts.options) parts.options (word parts.left 0)) (BadLength (place_behind at parts.options + 2)) long))
 
-pub all_cut : (judge : ℕ → List DhcpOption → DhcpOption → List OptionFault) (at : ℕ) (octets : List ℕ) (parts : Cut) → AreOctets octets → parts ≡ cut octets → leaves_over parts ≡ false → all_faults judge at parts ≡ [] → spelled_all parts.options ≡ octets
+pub all_cut : (judge : Judge) (at : ℕ) (octets : List ℕ) (parts : Cut) → AreOctets octets → parts ≡ cut octets → leaves_over parts ≡ false → all_faults judge at parts ≡ [] → spelled_all parts.options ≡ octets
 all_cut judge at octets parts h is used sound =
     sym (append-nil (spelled_all parts.options))
     ∙ ap (λ (xs : List ℕ). spelled_all parts.options ++ xs) (sym (none_left judge at parts used sound))

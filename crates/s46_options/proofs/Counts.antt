@@ -12,7 +12,7 @@ use Rattle.s46_options.specs.declared.fault.OptionFault.TheVariants.{SecondParam
 use Rattle.s46_options.specs.Options.{DhcpOption, spelled_all, Cut}
 use Rattle.s46_options.specs.Items.{sub_option, item_option, inside_octets}
 use Rattle.s46_options.specs.Accepted.{is_params, is_rule, is_dmr, sub_fits, item_fits, is_accepted}
-use Rattle.s46_options.specs.Faults.{has_code, when, params_faults, sub_faults_beside, rule_faults, dmr_faults, item_faults_beside, item_faults, each_faults, all_faults, place_behind, missing, first}
+use Rattle.s46_options.specs.Faults.{has_code, when, params_faults, sub_faults_beside, rule_faults, dmr_faults, item_faults_beside, item_faults, item_judge, each_faults, all_faults, place_behind, missing, first}
 
 same_count : {A : Type 0} (test : A → Bool) (code : ℕ) (option : A → DhcpOption) (fits : A → Bool) → ((x : A) → fits x ≡ true → test x ≡ has_code code (option x)) → (xs : List A) → list_all fits xs ≡ true → count_by test xs ≡ count_by (has_code code) (map option xs)
 same_count {A} test code option fits one [] h = refl
@@ -130,16 +130,13 @@ rules_next rules second at option h few =
 pub none_missing : (options : List DhcpOption) → 1 ≤ count_by (has_code 89) options → list_any (has_code 91) options ≡ true → missing options ≡ []
 none_missing options some there = rw (any_counted 89 options some, there) refl
 
-nothing_long : (n : ℕ) (f : OptionFault) → n < 4 → when (leb 4 n) f ≡ []
-nothing_long n f h = rw (lt-leb 4 n h) refl
+all_none : (parts : Cut) → each_faults item_faults 4 [] parts.options ≡ [] → length parts.left < 4 → all_faults item_judge 4 parts ≡ []
+all_none parts walk short = rw (walk, lt-leb 4 (length parts.left) short) refl
 
-all_none : (parts : Cut) → each_faults item_faults 4 [] parts.options ≡ [] → length parts.left < 4 → all_faults item_faults 4 parts ≡ []
-all_none parts walk short = rw (walk, nothing_long (length parts.left) (BadLength (place_behind 4 parts.options + 2)) short) refl
-
-pub no_rule : (parts : Cut) → each_faults item_faults 4 [] parts.options ≡ [] → length parts.left < 4 → count_by (has_code 89) parts.options ≡ 0 → first (all_faults item_faults 4 parts ++ missing parts.options) ≡ Some NoRule
+pub no_rule : (parts : Cut) → each_faults item_faults 4 [] parts.options ≡ [] → length parts.left < 4 → count_by (has_code 89) parts.options ≡ 0 → first (all_faults item_judge 4 parts ++ missing parts.options) ≡ Some NoRule
 no_rule parts walk short none =
     rw (all_none parts walk short, none_counted 89 parts.options none) refl
 
-pub no_dmr : (parts : Cut) → each_faults item_faults 4 [] parts.options ≡ [] → length parts.left < 4 → 1 ≤ count_by (has_code 89) parts.options → list_any (has_code 91) parts.options ≡ false → first (all_faults item_faults 4 parts ++ missing parts.options) ≡ Some NoDmr
+pub no_dmr : (parts : Cut) → each_faults item_faults 4 [] parts.options ≡ [] → length parts.left < 4 → 1 ≤ count_by (has_code 89) parts.options → list_any (has_code 91) parts.options ≡ false → first (all_faults item_judge 4 parts ++ missing parts.options) ≡ Some NoDmr
 no_dmr parts walk short some none =
     rw (all_none parts walk short, any_counted 89 parts.options some, none) refl

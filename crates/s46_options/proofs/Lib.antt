@@ -8,3 +8,4 @@ pub mod OneReading
 pub mod Spelled
 pub mod Zeros
 pub mod Written
+pub mod Leftmost

@@ -1,15 +1,18 @@
 -- Going over options one after the other: what is seen before an option, and what it adds.
-use Rattle.std.proofs.Common.{◌≡◌, ℕ, ◌+◌, ◌≤◌, ◌<◌, Bool, true, false, cond, ◌||◌, List, [], ◌∷◌, ◌++◌, length, get_or, take, drop, map, refl, sym, ap, ◌∙◌, arith, add-one, drop-cons, length-append}
+use Rattle.std.proofs.Common.{◌≡◌, ℕ, ◌+◌, ◌≤◌, ◌<◌, Bool, true, false, cond, ◌||◌, Some, List, [], ◌∷◌, ◌++◌, length, get_or, take, drop, map, refl, sym, ap, ◌∙◌, arith, add-one, drop-cons, length-append}
 use Rattle.std.specs.List.{list_any, count_by, list_all, AllZip}
+use Rattle.std.proofs.lemmas.Bool.{le-leb}
 use Rattle.std.proofs.lemmas.List.{take_more, take_all, drop_all, map-append, take-append-drop}
 use Rattle.std.proofs.lemmas.List.Folds.{list_any-append, list_all-append}
 use Rattle.std.proofs.lemmas.List.Sums.{sum_by_push}
 use Rattle.std.proofs.lemmas.Grind.{flat_map-append}
 use Rattle.s46_options.specs.declared.options.RawOption.{RawOption}
+use Rattle.octets.specs.Field.{word}
 use Rattle.s46_options.specs.declared.fault.OptionFault.{OptionFault}
-use Rattle.s46_options.specs.Options.{DhcpOption, spelled, spelled_all}
+use Rattle.s46_options.specs.declared.fault.OptionFault.TheVariants.{BadLength}
+use Rattle.s46_options.specs.Options.{DhcpOption, spelled, spelled_all, Cut}
 use Rattle.s46_options.specs.Raw.{option_of, options_of}
-use Rattle.s46_options.specs.Faults.{place_behind, each_faults}
+use Rattle.s46_options.specs.Faults.{Judge, place_behind, each_faults, all_faults, first}
 
 -- what stands past the end of a list
 abbrev pub nil : RawOption
@@ -109,3 +112,7 @@ all_taken raws i h = ap options_of (take_all i raws h)
 pub walked : (judge : ℕ → List DhcpOption → DhcpOption → List OptionFault) (at : ℕ) (raws : List RawOption) (i : ℕ) → length raws ≤ i → each_faults judge at [] (options_of raws) ≡ each_faults judge at (options_of (take i raws)) (options_of (drop i raws)) → each_faults judge at [] (options_of raws) ≡ []
 walked judge at raws i h walk =
     walk ∙ ap (λ (xs : List RawOption). each_faults judge at (options_of (take i raws)) (options_of xs)) (drop_all i raws h)
+
+-- of all options none is wrong, and what is left begins one that passes the end: its first fault is the first of all
+pub begun_first : (judge : Judge) (at place : ℕ) (options : List DhcpOption) (left : List ℕ) (e : OptionFault) → each_faults judge.whole at [] options ≡ [] → place ≡ place_behind at options → 4 ≤ length left → first (judge.begun place options (word left 0) ++ BadLength (place + 2) ∷ []) ≡ Some e → first (all_faults judge at (record { options = options; left = left })) ≡ Some e
+begun_first judge at place options left e walk here long told = rw (walk, le-leb 4 (length left) long, ← here) told

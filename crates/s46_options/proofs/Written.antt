@@ -21,7 +21,7 @@ use Rattle.s46_options.specs.declared.fault.OptionFault.TheVariants.{SecondParam
 use Rattle.s46_options.specs.Options.{DhcpOption, spelled_all, Cut, cut}
 use Rattle.s46_options.specs.Items.{octets_for, prefix_octets, params_octets, sub_option, rule_octets, dmr_octets, item_option, inside_octets, container_octets, sub_in_fields, item_in_fields}
 use Rattle.s46_options.specs.Accepted.{is_params, sub_fits, is_rule, is_dmr, item_fits, is_accepted}
-use Rattle.s46_options.specs.Faults.{when, first, over, padding, prefix_number, has_code, place_behind, leaves_over, left_over, each_faults, all_faults, params_faults, sub_faults, sub_faults_beside, field_faults, rule_end, subs_of, body_faults, rule_faults, dmr_faults, item_faults, item_faults_beside, missing, inside_faults, faults, fault_of}
+use Rattle.s46_options.specs.Faults.{when, first, over, padding, prefix_number, has_code, place_behind, leaves_over, left_over, each_faults, all_faults, params_faults, sub_faults, sub_judge, Judge, sub_faults_beside, field_faults, rule_end, subs_of, body_faults, rule_faults, dmr_faults, item_faults, item_judge, item_faults_beside, missing, inside_faults, faults, fault_of}
 use Rattle.s46_options.specs.Reading.{ReadsSub, ReadsItem, ReadsContainer}
 use Rattle.s46_options.proofs.Contents.{psid_fits}
 use Rattle.s46_options.proofs.Counts.{params_count, rule_count, dmr_count, cond_true, none_counted, none_missing, any_counted}
@@ -110,7 +110,7 @@ few_behind code bound earlier o os h = omega (arith, h, count_cons code o os, co
 once_before : (code : ℕ) (earlier : List DhcpOption) (o : DhcpOption) (os : List DhcpOption) → count_by (has_code code) earlier + count_by (has_code code) (o ∷ os) ≤ 1 → has_code code o ≡ true → list_any (has_code code) earlier ≡ false
 once_before code earlier o os h is = let few = few_before code 1 earlier o os h is in none_counted code earlier (omega (arith, few))
 
-nothing_left : (judge : ℕ → List DhcpOption → DhcpOption → List OptionFault) (at : ℕ) (options : List DhcpOption) → each_faults judge at [] options ≡ [] → all_faults judge at (record { options = options; left = [] }) ≡ []
+nothing_left : (judge : Judge) (at : ℕ) (options : List DhcpOption) → each_faults judge.whole at [] options ≡ [] → all_faults judge at (record { options = options; left = [] }) ≡ []
 nothing_left judge at options h = rw h refl
 
 subs_clear : (at : ℕ) (earlier : List DhcpOption) (subs : List Sub) → list_all sub_fits subs ≡ true → count_by (has_code 93) earlier + count_by (has_code 93) (map sub_option subs) ≤ 1 → each_faults sub_faults at earlier (map sub_option subs) ≡ []
@@ -148,10 +148,10 @@ rule_none : (at : ℕ) (octets : List ℕ) → 8 ≤ length octets → octet oct
 rule_none at octets long most whole used clear =
     rw (le-ltb (length octets) 8 long, le-ltb 128 (octet octets 7) most, le-ltb (length octets) (rule_end octets) whole, used) clear
 
-body_none : (at : ℕ) (octets : List ℕ) → field_faults at octets ≡ [] → padding (at + 12) 16 (prefix_number (part octets 8 (octets_for (octet octets 7)))) (octet octets 7) ≡ [] → all_faults sub_faults (at + (4 + rule_end octets)) (subs_of octets) ≡ [] → body_faults at octets ≡ []
+body_none : (at : ℕ) (octets : List ℕ) → field_faults at octets ≡ [] → padding (at + 12) 16 (prefix_number (part octets 8 (octets_for (octet octets 7)))) (octet octets 7) ≡ [] → all_faults sub_judge (at + (4 + rule_end octets)) (subs_of octets) ≡ [] → body_faults at octets ≡ []
 unfolding body_faults
 body_none at octets fields clear subs =
-    three_none (field_faults at octets) (padding (at + 12) 16 (prefix_number (part octets 8 (octets_for (octet octets 7)))) (octet octets 7)) (all_faults sub_faults (at + (4 + rule_end octets)) (subs_of octets)) fields clear subs
+    three_none (field_faults at octets) (padding (at + 12) 16 (prefix_number (part octets 8 (octets_for (octet octets 7)))) (octet octets 7)) (all_faults sub_judge (at + (4 + rule_end octets)) (subs_of octets)) fields clear subs
 
 flag_most : (flag : Bool) → bit_of flag ≤ 1
 flag_most true = omega arith
@@ -198,11 +198,11 @@ rule_clear at flag ea prefix4 prefix6 subs most small4 small6 fit fits once =
     let own = rule_subs flag ea prefix4 prefix6 subs fit in
     let counted = params_count subs fits in
     let none : count_by (has_code 93) [] + count_by (has_code 93) (map sub_option subs) ≤ 1 = omega (arith, counted, once) in
-    let walk = nothing_left sub_faults (at + (4 + rule_end octets)) (map sub_option subs) (subs_clear (at + (4 + rule_end octets)) [] subs fits none) in
+    let walk = nothing_left sub_judge (at + (4 + rule_end octets)) (map sub_option subs) (subs_clear (at + (4 + rule_end octets)) [] subs fits none) in
     let rest : List ℕ = prefix6.len ∷ (prefix_octets prefix6 ++ spelled_all (map sub_option subs)) in
     let fields : field_faults at octets ≡ [] = fields_clear at flag ea prefix4 rest most small4 in
     let clear = prefix_clear (at + 12) prefix6 (part octets 8 (octets_for prefix6.len)) (rule_part flag ea prefix4 prefix6 subs) small6 in
-    rule_none at octets (omega (arith, len)) prefix6.within (omega (arith, len)) (ap leaves_over own) (body_none at octets fields clear (ap (all_faults sub_faults (at + (4 + rule_end octets))) own ∙ walk))
+    rule_none at octets (omega (arith, len)) prefix6.within (omega (arith, len)) (ap leaves_over own) (body_none at octets fields clear (ap (all_faults sub_judge (at + (4 + rule_end octets))) own ∙ walk))
 
 rule_reads : (flag : Bool) (ea : ℕ) (prefix4 : Prefix4) (prefix6 : Prefix6) (subs : List Sub) → prefix4.bits < 2 ^ 32 → prefix6.bits < 2 ^ 128 → AllFit (map sub_option subs) → list_all sub_fits subs ≡ true → ReadsItem (record { code = 89; octets = rule_octets flag ea prefix4 prefix6 subs }) (item.Rule flag ea prefix4 prefix6 subs)
 rule_reads flag ea prefix4 prefix6 subs small4 small6 fit fits =
@@ -293,9 +293,9 @@ unfolding faults
 faults_none octets parts long code len is clear =
     rw (le-ltb (length octets) 4 long, eq-eqb (word octets 0) 95 code, le-ltb (length octets) (4 + word octets 2) (omega (arith, len)), le-ltb (4 + word octets 2) (length octets) (omega (arith, len)), is) clear
 
-inside_none : (parts : Cut) → left_over 2 parts ≡ [] → all_faults item_faults 4 parts ≡ [] → missing parts.options ≡ [] → inside_faults parts ≡ []
+inside_none : (parts : Cut) → left_over 2 parts ≡ [] → all_faults item_judge 4 parts ≡ [] → missing parts.options ≡ [] → inside_faults parts ≡ []
 unfolding inside_faults
-inside_none parts used clear there = three_none (left_over 2 parts) (all_faults item_faults 4 parts) (missing parts.options) used clear there
+inside_none parts used clear there = three_none (left_over 2 parts) (all_faults item_judge 4 parts) (missing parts.options) used clear there
 
 pub record FitsContainer (items : List Item) : Type 0 where
   pub all : list_all item_fits items ≡ true
@@ -342,7 +342,7 @@ written_sound items accepted small =
     let dmrs = dmr_count items f.all in
     let few : count_by (has_code 89) [] + count_by (has_code 89) options ≤ 256 = omega (arith, rules, f.few) in
     let once : count_by (has_code 91) [] + count_by (has_code 91) options ≤ 1 = omega (arith, dmrs, f.one) in
-    let walk = nothing_left item_faults 4 options (items_clear 4 [] items f.all small fit few once) in
+    let walk = nothing_left item_judge 4 options (items_clear 4 [] items f.all small fit few once) in
     let there = none_missing options (omega (arith, rules, f.some)) (any_counted 91 options (omega (arith, dmrs, f.one))) in
     ap first (faults_none octets parts (omega (arith, len)) (container_code items) (omega (arith, len, size)) (container_cut items small f.short) (inside_none parts refl walk there))
 

@@ -28,7 +28,7 @@ zeros_tail n zero m q x all is = sym (all_zero m q x is) ∙ ap (λ (j : ℕ). b
 zeros_tail zero (suc k) m q x all is = absurd (omega (arith, all))
 zeros_tail (suc n) (suc k) m q x all is = ap (λ (xs : List ℕ). byte_at n x ∷ xs) (zeros_tail n k m q x (omega (arith, all)) is)
 
-in_bits : (m : ℕ) → 2 ^ (8 * m) ≡ 256 ^ m
+pub in_bits : (m : ℕ) → 2 ^ (8 * m) ≡ 256 ^ m
 in_bits zero = refl
 in_bits (suc m) =
     ap (λ (k : ℕ). 2 ^ k) (let e : 8 * suc m ≡ 8 + 8 * m = omega arith in e)

@@ -52,20 +52,26 @@ leaves_over parts = nat_le 1 (length parts.left) && nat_lt (length parts.left) 4
 abbrev pub left_over : ℕ → Cut → List OptionFault
 left_over at parts = when (leaves_over parts) (BadLength at)
 
--- an option at the place passes the enclosing end, so its own length field is wrong
-abbrev pub too_long : ℕ → List ℕ → List OptionFault
-too_long at left = when (nat_le 4 (length left)) (BadLength (at + 2))
+-- what is said of options, each by its place and those before it: of one that is whole, and of one that passes the enclosing end, of
+-- which there is the code
+pub record Judge : Type 0 where
+  pub whole : ℕ → List DhcpOption → DhcpOption → List OptionFault
+  pub begun : ℕ → List DhcpOption → ℕ → List OptionFault
 
--- what a judge of an option, by its place and those before it, says of each
+-- an option at the place passes the enclosing end: its code may be wrong there, and its own length field is
+abbrev pub too_long : Judge → ℕ → List DhcpOption → List ℕ → List OptionFault
+too_long judge at earlier left = if nat_le 4 (length left) then judge.begun at earlier (word left 0) ++ BadLength (at + 2) ∷ [] else []
+
+-- what is said of each of these options
 abbrev pub each_faults : (ℕ → List DhcpOption → DhcpOption → List OptionFault) → ℕ → List DhcpOption → List DhcpOption → List OptionFault
 each_faults judge at earlier [] = []
 each_faults judge at earlier (option ∷ options) =
     judge (place_behind at earlier) earlier option ++ each_faults judge at (earlier ++ option ∷ []) options
 
 -- all options from the place on
-abbrev pub all_faults : (ℕ → List DhcpOption → DhcpOption → List OptionFault) → ℕ → Cut → List OptionFault
+abbrev pub all_faults : Judge → ℕ → Cut → List OptionFault
 all_faults judge at parts =
-    each_faults judge at [] parts.options ++ too_long (place_behind at parts.options) parts.left
+    each_faults judge.whole at [] parts.options ++ too_long judge (place_behind at parts.options) parts.options parts.left
 
 -- ---- an option inside of a rule, which stands at a place with its code
 
@@ -83,6 +89,16 @@ sub_faults_beside second at option =
 
 abbrev pub sub_faults : ℕ → List DhcpOption → DhcpOption → List OptionFault
 sub_faults at earlier option = sub_faults_beside (list_any (has_code params_code) earlier) at option
+
+-- the same of one that passes the rule's end, by its code
+abbrev pub begun_sub_faults : Bool → ℕ → ℕ → List OptionFault
+begun_sub_faults second at code = when (code == params_code && second) (SecondParams at)
+
+abbrev pub sub_judge : Judge
+sub_judge = record {
+  whole = sub_faults;
+  begun = λ at earlier code. begun_sub_faults (list_any (has_code params_code) earlier) at code;
+}
 
 -- ---- an option inside of the container
 
@@ -105,7 +121,7 @@ unfoldable pub body_faults : ℕ → List ℕ → List OptionFault
 body_faults at octets =
     field_faults at octets
     ++ (padding (at + 12) 16 (prefix_number (part octets 8 (octets_for (octet octets 7)))) (octet octets 7)
-    ++ all_faults sub_faults (at + (4 + rule_end octets)) (subs_of octets))
+    ++ all_faults sub_judge (at + (4 + rule_end octets)) (subs_of octets))
 
 -- a prefix length over its bound says nothing of what stands behind it
 abbrev pub rule_faults : ℕ → List ℕ → List OptionFault
@@ -133,6 +149,17 @@ abbrev pub item_faults : ℕ → List DhcpOption → DhcpOption → List OptionF
 item_faults at earlier option =
     item_faults_beside (count_by (has_code rule_code) earlier) (list_any (has_code dmr_code) earlier) at option
 
+-- the same of one that passes the container's end, by its code
+abbrev pub begun_item_faults : ℕ → Bool → ℕ → ℕ → List OptionFault
+begun_item_faults rules second at code =
+    when (code == rule_code && nat_le 256 rules) (TooManyRules at) ++ when (code == dmr_code && second) (SecondDmr at)
+
+abbrev pub item_judge : Judge
+item_judge = record {
+  whole = item_faults;
+  begun = λ at earlier code. begun_item_faults (count_by (has_code rule_code) earlier) (list_any (has_code dmr_code) earlier) at code;
+}
+
 -- ---- the text
 
 -- at the end: no rule, no default mapping rule
@@ -141,7 +168,7 @@ missing options = when (not (list_any (has_code rule_code) options)) NoRule ++ w
 
 -- the container's own length field stands at place 2, and its options from place 4 on
 unfoldable pub inside_faults : Cut → List OptionFault
-inside_faults parts = left_over 2 parts ++ (all_faults item_faults 4 parts ++ missing parts.options)
+inside_faults parts = left_over 2 parts ++ (all_faults item_judge 4 parts ++ missing parts.options)
 
 -- the text is one container and nothing else
 unfoldable pub faults : List ℕ → List OptionFault

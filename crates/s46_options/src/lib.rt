@@ -24,7 +24,7 @@ pub use digits::{HexFault, read_hex};
 pub use equal::equal_values_are_the_same;
 pub use fault::OptionFault;
 pub use item::Item;
-pub use laws::octets_read_as_one_container;
+pub use laws::{octets_read_as_one_container, the_fault_told_is_the_leftmost};
 pub use read::read_container;
 pub use subs::{Sub, Subs};
 pub use text::{offset_in, options_text};

@@ -1,6 +1,6 @@
 //! Reading a container.
 
-ghost use Rattle.std.specs.Prelude.{◌≡◌, ◌+◌, ◌<◌, ◌≤◌, ◌^◌, ◌++◌, ◌⊎◌, true, if◌then◌else◌, ◌||◌, [], List, length, map, drop, IfOk, IfErr, OnOk, Some, None};
+ghost use Rattle.std.specs.Prelude.{◌≡◌, ◌+◌, ◌<◌, ◌≤◌, ◌^◌, ◌++◌, ◌⊎◌, ◌∷◌, true, if◌then◌else◌, ◌||◌, [], List, length, map, drop, IfOk, IfErr, OnOk, Some, None};
 ghost use Rattle.std.specs.List.{list_all, count_by};
 ghost use Rattle.octets.specs.Field.{word};
 ghost use Rattle.s46_options.specs.declared.item.Item.{Item as ItemType};
@@ -8,7 +8,7 @@ ghost use Rattle.s46_options.specs.Options.{spelled_all, cut};
 ghost use Rattle.s46_options.specs.Raw.{cut_of, options_of, option_of};
 ghost use Rattle.s46_options.specs.Items.{item_option, container_octets};
 ghost use Rattle.s46_options.specs.Accepted.{item_fits, is_accepted};
-ghost use Rattle.s46_options.specs.Faults.{has_code, dmr_faults, item_faults, item_faults_beside, all_faults, missing, inside_faults, faults, first, fault_of};
+ghost use Rattle.s46_options.specs.Faults.{has_code, dmr_faults, item_faults_beside, item_judge, begun_item_faults, all_faults, missing, inside_faults, faults, first, fault_of};
 ghost use Rattle.std.specs.List.{AllZip};
 ghost use Rattle.s46_options.specs.Reading.{ReadsItem, ReadsContainer};
 
@@ -111,15 +111,31 @@ fn read_item(
     }
 }
 
+/// The first fault of an option of the container, at a place, that passes the container's end.
+fn long_item(at: u32, seen: Seen, left: &[u8]) -> OptionFault
+    requires place { at ≤ 65535 }
+    requires head { 4 ≤ length left.now }
+    ensures { first (begun_item_faults seen.rules seen.dmr at (word left.now 0) ++ OptionFault.BadLength (at + 2) ∷ []) ≡ Some result }
+{
+    let code = BigEndian::read_u16(left);
+    if code == RULE && seen.rules >= MOST_RULES {
+        return OptionFault::TooManyRules(at);
+    }
+    if code == DMR && seen.dmr {
+        return OptionFault::SecondDmr(at);
+    }
+    OptionFault::BadLength(at + LENGTH_AT as u32)
+}
+
 /// The options of the container, of which the first stands at place 4.
 fn read_items(alloc: Global, parts: &Cut<'_>) -> Result<Vec<Item>, OptionFault>
     requires { length (spelled_all (options_of parts.now.options.items)) + length parts.now.left.now ≤ 65535 }
-    ensures sound { OnOk result (all_faults item_faults 4 (cut_of parts.now) ≡ []) }
+    ensures sound { OnOk result (all_faults item_judge 4 (cut_of parts.now) ≡ []) }
     ensures last { OnOk result (missing (options_of parts.now.options.items) ≡ []) }
     ensures reads { IfOk result (λ items. AllZip ReadsItem (options_of parts.now.options.items) items.items) }
     ensures options { IfOk result (λ items. map item_option items.items ≡ options_of parts.now.options.items) }
     ensures accepted { IfOk result (λ items. is_accepted items.items ≡ true) }
-    ensures refused { IfErr result (λ e. (first (all_faults item_faults 4 (cut_of parts.now) ++ missing (options_of parts.now.options.items)) ≡ Some e) ⊎ (e ≡ OptionFault.NoMemory)) }
+    ensures refused { IfErr result (λ e. (first (all_faults item_judge 4 (cut_of parts.now) ++ missing (options_of parts.now.options.items)) ≡ Some e) ⊎ (e ≡ OptionFault.NoMemory)) }
 {
     let mut items = Vec::new(alloc);
     let mut place = HEAD_LEN as u32;
@@ -133,7 +149,7 @@ fn read_items(alloc: Global, parts: &Cut<'_>) -> Result<Vec<Item>, OptionFault>
         place += (HEAD_LEN + option.octets.len()) as u32;
     }
     if parts.left.len() >= HEAD_LEN {
-        return Err(OptionFault::BadLength(place + LENGTH_AT as u32));
+        return Err(long_item(place, seen, parts.left));
     }
     if seen.rules == 0 {
         return Err(OptionFault::NoRule);

@@ -10,15 +10,15 @@
 //! | 8 on | bits of the IPv6 prefix, in whole octets |
 //! | then | options |
 
-ghost use Rattle.std.specs.Prelude.{◌≡◌, ◌+◌, ◌<◌, ◌≤◌, ◌⊎◌, true, false, [], length, map, IfOk, IfErr, OnOk, Some};
+ghost use Rattle.std.specs.Prelude.{◌≡◌, ◌+◌, ◌<◌, ◌≤◌, ◌⊎◌, ◌++◌, ◌∷◌, true, false, [], length, map, IfOk, IfErr, OnOk, Some};
 ghost use Rattle.std.specs.List.{list_all, count_by};
 ghost use Rattle.octets.specs.Bits.{bit_of};
-ghost use Rattle.octets.specs.Field.{octet, quad};
+ghost use Rattle.octets.specs.Field.{octet, word, quad};
 ghost use Rattle.s46_options.specs.Options.{spelled_all};
 ghost use Rattle.s46_options.specs.Raw.{cut_of, options_of, option_of};
 ghost use Rattle.s46_options.specs.Items.{item_option, sub_option};
 ghost use Rattle.s46_options.specs.Accepted.{item_fits, is_rule, sub_fits, is_params};
-ghost use Rattle.s46_options.specs.Faults.{leaves_over, subs_of, rule_end, body_faults, field_faults, rule_faults, sub_faults, sub_faults_beside, all_faults, first};
+ghost use Rattle.s46_options.specs.Faults.{leaves_over, subs_of, rule_end, body_faults, field_faults, rule_faults, sub_faults_beside, sub_judge, begun_sub_faults, all_faults, first};
 ghost use Rattle.std.specs.List.{AllZip};
 ghost use Rattle.s46_options.specs.Reading.{ReadsSub, ReadsItem};
 
@@ -27,6 +27,7 @@ use crate::options::{Cut, LENGTH_AT, RawOption, cut_options};
 use crate::params::read_params;
 use crate::prefixes::{MOST_LEN6, octets_for, read_prefix4, read_prefix6};
 use crate::{Item, OptionFault, Sub, Subs};
+use byteorder::{BigEndian, ByteOrder};
 use octets::{Bytes, NoMemory, Prefix4};
 use std::alloc::Global;
 
@@ -111,12 +112,12 @@ fn read_sub(
 /// The options inside of a rule, of which the first stands at a place.
 fn read_subs(alloc: Global, at: u32, parts: &Cut<'_>) -> Result<Subs, OptionFault>
     requires { at + (length (spelled_all (options_of parts.now.options.items)) + length parts.now.left.now) ≤ 65539 }
-    ensures sound { OnOk result (all_faults sub_faults at (cut_of parts.now) ≡ []) }
+    ensures sound { OnOk result (all_faults sub_judge at (cut_of parts.now) ≡ []) }
     ensures reads { IfOk result (AllZip ReadsSub (options_of parts.now.options.items)) }
     ensures options { IfOk result (λ subs. map sub_option subs ≡ options_of parts.now.options.items) }
     ensures fits { IfOk result (λ subs. list_all sub_fits subs ≡ true) }
     ensures once { IfOk result (λ subs. count_by is_params subs ≤ 1) }
-    ensures refused { IfErr result (λ e. (first (all_faults sub_faults at (cut_of parts.now)) ≡ Some e) ⊎ (e ≡ OptionFault.NoMemory)) }
+    ensures refused { IfErr result (λ e. (first (all_faults sub_judge at (cut_of parts.now)) ≡ Some e) ⊎ (e ≡ OptionFault.NoMemory)) }
 {
     let mut subs = Vec::new(alloc);
     let mut place = at;
@@ -127,9 +128,22 @@ fn read_subs(alloc: Global, at: u32, parts: &Cut<'_>) -> Result<Subs, OptionFaul
         place += (HEAD_LEN + option.octets.len()) as u32;
     }
     if parts.left.len() >= HEAD_LEN {
-        return Err(OptionFault::BadLength(place + 2));
+        return Err(long_sub(place, second, parts.left));
     }
     Ok(Subs::of(subs))
+}
+
+/// The first fault of an option inside of a rule, at a place, that passes the rule's end. Port parameters stand
+/// before it, or don't.
+fn long_sub(at: u32, second: bool, left: &[u8]) -> OptionFault
+    requires place { at ≤ 65535 }
+    requires head { 4 ≤ length left.now }
+    ensures { first (begun_sub_faults second at (word left.now 0) ++ OptionFault.BadLength (at + 2) ∷ []) ≡ Some result }
+{
+    if BigEndian::read_u16(left) == PARAMS && second {
+        return OptionFault::SecondParams(at);
+    }
+    OptionFault::BadLength(at + LENGTH_AT as u32)
 }
 
 /// The rule that these octets of the option at a place are, which hold its fields and its IPv6 prefix. The

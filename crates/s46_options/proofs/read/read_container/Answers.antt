@@ -3,7 +3,7 @@ use Rattle.std.proofs.lemmas.List.{length-drop}
 use Rattle.s46_options.specs.Options.{cut, spelled_all}
 use Rattle.s46_options.specs.Raw.{cut_of}
 use Rattle.s46_options.specs.Items.{inside_octets}
-use Rattle.s46_options.specs.Faults.{item_faults}
+use Rattle.s46_options.specs.Faults.{item_judge}
 use Rattle.s46_options.proofs.Numbers.{AreOctets, octets_drop}
 use Rattle.s46_options.proofs.Contents.{cut_len, all_cut, container_again, same_cut}
 use Rattle.s46_options.proofs.read.read_container.Goals as goal
@@ -25,7 +25,7 @@ returns-clause-back c =
     let own : AreOctets inside = λ i. rw c.in_ok-inside.ensures.inside (octets_drop 4 octets fits i) in
     let used = sym c.leaves_over.ensures ∙ c.if-leaves_over.false in
     let items = c.in_ok-items.ensures in
-    let whole = all_cut item_faults 4 inside (cut_of c.in_ok-parts.parts) own (same_cut (cut_of c.in_ok-parts.parts) (cut inside) c.in_ok-parts.ensures.options c.in_ok-parts.ensures.left) used items.sound in
+    let whole = all_cut item_judge 4 inside (cut_of c.in_ok-parts.parts) own (same_cut (cut_of c.in_ok-parts.parts) (cut inside) c.in_ok-parts.ensures.options c.in_ok-parts.ensures.left) used items.sound in
     let same = container_again octets (inside_octets c.in_ok-items.items.items) fits (omega (arith, c.in_ok-inside.ensures.length)) c.in_ok-inside.ensures.code c.in_ok-inside.ensures.length (ap spelled_all items.options ∙ whole ∙ c.in_ok-inside.ensures.inside) in
     rw c.accepted.ensures (sym same)
 

@@ -1,12 +1,15 @@
-use Rattle.std.proofs.Common.{arith, inl, ◌≤◌, ap, sym, ◌∙◌, ◌≡◌, ◌<◌, ◌+◌, Bool, ℕ, cond, ◌||◌, [], length, get_or, take}
+use Rattle.std.proofs.Common.{arith, inl, ◌≤◌, ap, sym, ◌∙◌, ◌≡◌, ◌<◌, ◌+◌, Bool, ℕ, cond, ◌||◌, ◌++◌, ◌∷◌, [], length, get_or, take, Some}
 use Rattle.std.specs.List.{count_by, list_any}
+use Rattle.octets.specs.Field.{word}
+use Rattle.s46_options.specs.declared.fault.OptionFault.TheVariants.{BadLength}
 use Rattle.s46_options.specs.Raw.{option_of, options_of, cut_of}
 use Rattle.s46_options.specs.Options.{spelled_all}
-use Rattle.s46_options.specs.Faults.{item_faults, item_faults_beside, has_code}
+use Rattle.s46_options.specs.Faults.{item_faults, item_faults_beside, item_judge, begun_item_faults, all_faults, missing, first, place_behind, has_code}
 use Rattle.s46_options.specs.Reading.{ReadsItem}
 use Rattle.s46_options.specs.Items.{item_option}
 use Rattle.s46_options.specs.Accepted.{item_fits}
-use Rattle.s46_options.proofs.Walks.{place_bound, place_next, walk_next, any_next, count_next, once_next, map_next, all_next, zip_next, all_taken, walked, nil}
+use Rattle.s46_options.proofs.Walks.{place_bound, place_next, walk_next, any_next, count_next, once_next, map_next, all_next, zip_next, all_taken, walked, begun_first, nil}
+use Rattle.s46_options.proofs.Contents.{first_left}
 use Rattle.s46_options.proofs.Counts.{dmr_alone, rules_next, accepted_by, no_rule, no_dmr, none_missing}
 use Rattle.s46_options.proofs.read.read_items.Goals as goal
 
@@ -83,3 +86,25 @@ returns-clause-accepted c =
     let end : length raws ≤ i = rw c.deref-option-items.ensures.value at c.loop-option-test.false in
     let short : length (spelled_all (options_of (take i raws))) ≤ 65535 = rw (all_taken raws i end) (omega (arith, c.requires)) in
     accepted_by c.loop-option.items.items (options_of (take i raws)) c.loop-option.seen.rules c.loop-option.seen.dmr before.fits before.items before.rules (omega (arith, c.if-seen-eq0.false)) before.few before.once c.if-not-seen.false short
+
+pub long_item-requires-clause-place : goal.long_item-requires-clause-place
+long_item-requires-clause-place c =
+    let raws = c.args.parts.now.options.items in
+    let i = c.loop-option.option-index in
+    let end : length raws ≤ i = rw c.deref-option-items.ensures.value at c.loop-option-test.false in
+    let here : c.loop-option.place ≡ place_behind 4 (options_of raws) = c.loop-option.invariant.place ∙ ap (place_behind 4) (all_taken raws i end) in
+    omega (arith, here, c.requires, c.if-parts-ge-HEAD_LEN.true)
+
+pub returns-then-parts-ge-HEAD_LEN-clause-refused : goal.returns-then-parts-ge-HEAD_LEN-clause-refused
+returns-then-parts-ge-HEAD_LEN-clause-refused c =
+    let raws = c.args.parts.now.options.items in
+    let i = c.loop-option.option-index in
+    let left = c.args.parts.now.left.now in
+    let place = c.loop-option.place in
+    let end : length raws ≤ i = rw c.deref-option-items.ensures.value at c.loop-option-test.false in
+    let here : place ≡ place_behind 4 (options_of raws) = c.loop-option.invariant.place ∙ ap (place_behind 4) (all_taken raws i end) in
+    let rules : c.loop-option.seen.rules ≡ count_by (has_code 89) (options_of raws) = c.loop-option.invariant.rules ∙ ap (count_by (has_code 89)) (all_taken raws i end) in
+    let dmr : c.loop-option.seen.dmr ≡ list_any (has_code 91) (options_of raws) = c.loop-option.invariant.dmr ∙ ap (list_any (has_code 91)) (all_taken raws i end) in
+    let told : first (begun_item_faults (count_by (has_code 89) (options_of raws)) (list_any (has_code 91) (options_of raws)) place (word left 0) ++ BadLength (place + 2) ∷ []) ≡ Some c.long_item.result = rw (← rules, ← dmr) c.long_item.ensures in
+    let all = begun_first item_judge 4 place (options_of raws) left c.long_item.result (walked item_faults 4 raws i end c.loop-option.invariant.walk) here c.if-parts-ge-HEAD_LEN.true told in
+    inl (first_left (all_faults item_judge 4 (cut_of c.args.parts.now)) (missing (options_of raws)) c.long_item.result all)

@@ -7,7 +7,7 @@ use Rattle.octets.specs.Field.{octet, part}
 use Rattle.s46_options.specs.Options.{Cut, DhcpOption, spelled_all}
 use Rattle.s46_options.specs.Raw.{cut_of}
 use Rattle.s46_options.specs.Items.{octets_for}
-use Rattle.s46_options.specs.Faults.{field_faults, padding, prefix_number, all_faults, sub_faults, subs_of, body_faults, rule_end}
+use Rattle.s46_options.specs.Faults.{field_faults, padding, prefix_number, all_faults, sub_judge, subs_of, body_faults, rule_end}
 use Rattle.s46_options.proofs.Numbers.{AreOctets, octets_drop}
 use Rattle.s46_options.proofs.Contents.{cut_len, all_cut, rule_again, first_second}
 use Rattle.s46_options.proofs.rule.read_body.Goals as goal
@@ -18,7 +18,7 @@ returns-in_err-prefix6-clause-refused c =
     let p = err_from_is_err_and c.from_residual-in_err-prefix6.result c.from_residual-in_err-prefix6.ensures.1 in
     let octets = c.args.octets.now in
     let size : (8 + c.octets_for-end.result) - 8 ≡ octets_for (octet octets 7) = omega (arith, c.octets_for-end.ensures) in
-    rw (p.1, p.2) (inl (first_second (field_faults c.args.at octets) (padding (c.args.at + 12) 16 (prefix_number (part octets 8 (octets_for (octet octets 7)))) (octet octets 7)) (all_faults sub_faults (c.args.at + (4 + rule_end octets)) (subs_of octets)) c.in_err-prefix6.field-0.0 c.in_ok-fields.ensures.sound (rw size at c.in_err-prefix6.ensures.refused)))
+    rw (p.1, p.2) (inl (first_second (field_faults c.args.at octets) (padding (c.args.at + 12) 16 (prefix_number (part octets 8 (octets_for (octet octets 7)))) (octet octets 7)) (all_faults sub_judge (c.args.at + (4 + rule_end octets)) (subs_of octets)) c.in_err-prefix6.field-0.0 c.in_ok-fields.ensures.sound (rw size at c.in_err-prefix6.ensures.refused)))
 
 pub read_subs-requires : goal.read_subs-requires
 read_subs-requires c =
@@ -36,7 +36,7 @@ returns-clause-option c =
     let prefix = c.in_ok-prefix6.ensures in
     let subs = c.in_ok-subs.ensures in
     let size : (8 + c.octets_for-end.result) - 8 ≡ octets_for (octet octets 7) = omega (arith, c.octets_for-end.ensures) in
-    let whole = all_cut sub_faults (c.args.at + (4 + (8 + c.octets_for-end.result))) (drop (rule_end octets) octets) (cut_of c.args.parts.now) (octets_drop (rule_end octets) octets fits) c.requires.parts c.requires.used subs.sound in
+    let whole = all_cut sub_judge (c.args.at + (4 + (8 + c.octets_for-end.result))) (drop (rule_end octets) octets) (cut_of c.args.parts.now) (octets_drop (rule_end octets) octets fits) c.requires.parts c.requires.used subs.sound in
     let same = rule_again c.in_ok-fields.fields.flag c.in_ok-fields.fields.ea c.in_ok-fields.fields.prefix4 c.in_ok-prefix6.prefix6 c.in_ok-subs.subs octets fits c.requires.whole (record { flag_is = fields.flag; ea_is = fields.ea; len4 = fields.len4; bits4 = fields.bits4 }) prefix.length c.requires.len6 c.requires.end (rw size at prefix.bits) (ap spelled_all subs.options ∙ whole) in
     ap (λ (xs : List ℕ). let o : DhcpOption = record { code = 89; octets = xs } in o) same
 

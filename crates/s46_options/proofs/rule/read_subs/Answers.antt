@@ -1,11 +1,14 @@
-use Rattle.std.proofs.Common.{arith, ap, sym, ◌∙◌, ◌≡◌, ◌<◌, ◌+◌, Bool, [], length, get_or, take}
-use Rattle.std.specs.List.{count_by}
+use Rattle.std.proofs.Common.{arith, ap, sym, ◌∙◌, ◌≡◌, ◌<◌, ◌≤◌, ◌+◌, ◌++◌, ◌∷◌, Bool, ℕ, List, [], length, get_or, take, Some, inl, subst}
+use Rattle.std.specs.List.{count_by, list_any}
+use Rattle.octets.specs.Field.{word}
+use Rattle.s46_options.specs.declared.fault.OptionFault.TheVariants.{BadLength}
+use Rattle.s46_options.specs.Options.{DhcpOption, spelled_all}
 use Rattle.s46_options.specs.Raw.{option_of, options_of}
-use Rattle.s46_options.specs.Faults.{sub_faults, sub_faults_beside, has_code}
+use Rattle.s46_options.specs.Faults.{sub_faults, sub_faults_beside, sub_judge, begun_sub_faults, first, place_behind, has_code}
 use Rattle.s46_options.specs.Reading.{ReadsSub}
 use Rattle.s46_options.specs.Items.{sub_option}
 use Rattle.s46_options.specs.Accepted.{sub_fits}
-use Rattle.s46_options.proofs.Walks.{place_bound, place_next, walk_next, any_next, count_next, once_next, map_next, all_next, zip_next, nil}
+use Rattle.s46_options.proofs.Walks.{place_bound, place_next, walk_next, any_next, count_next, once_next, map_next, all_next, zip_next, all_taken, walked, begun_first, nil}
 use Rattle.s46_options.proofs.Counts.{params_count, params_alone, once_most}
 use Rattle.s46_options.proofs.rule.read_subs.Goals as goal
 
@@ -50,3 +53,22 @@ returns-clause-once c =
     let counted = params_count c.loop-option.subs.items c.loop-option.invariant.fits in
     let all = ap (count_by (has_code 93)) c.loop-option.invariant.subs in
     rw c.of.ensures (omega (arith, counted, all, c.loop-option.invariant.once, once_most c.loop-option.second))
+
+pub long_sub-requires-clause-place : goal.long_sub-requires-clause-place
+long_sub-requires-clause-place c =
+    let raws = c.args.parts.now.options.items in
+    let i = c.loop-option.option-index in
+    let end : length raws ≤ i = rw c.deref-option-items.ensures.value at c.loop-option-test.false in
+    let here : c.loop-option.place ≡ place_behind c.args.at (options_of raws) = c.loop-option.invariant.place ∙ ap (place_behind c.args.at) (all_taken raws i end) in
+    omega (arith, here, c.requires, c.if-parts-ge-HEAD_LEN.true)
+
+pub returns-then-parts-ge-HEAD_LEN-clause-refused : goal.returns-then-parts-ge-HEAD_LEN-clause-refused
+returns-then-parts-ge-HEAD_LEN-clause-refused c =
+    let raws = c.args.parts.now.options.items in
+    let i = c.loop-option.option-index in
+    let left = c.args.parts.now.left.now in
+    let end : length raws ≤ i = rw c.deref-option-items.ensures.value at c.loop-option-test.false in
+    let here : c.loop-option.place ≡ place_behind c.args.at (options_of raws) = c.loop-option.invariant.place ∙ ap (place_behind c.args.at) (all_taken raws i end) in
+    let second : c.loop-option.second ≡ list_any (has_code 93) (options_of raws) = c.loop-option.invariant.second ∙ ap (list_any (has_code 93)) (all_taken raws i end) in
+    let told : first (begun_sub_faults (list_any (has_code 93) (options_of raws)) c.loop-option.place (word left 0) ++ BadLength (c.loop-option.place + 2) ∷ []) ≡ Some c.long_sub.result = rw (← second) c.long_sub.ensures in
+    inl (begun_first sub_judge c.args.at c.loop-option.place (options_of raws) left c.long_sub.result (walked sub_faults c.args.at raws i end c.loop-option.invariant.walk) here c.if-parts-ge-HEAD_LEN.true told)
