@@ -35,10 +35,9 @@ use Rattle.transit.specs.Reply.{has_notice, notice4, notice6, IsAnswer4, IsAnswe
 use Rattle.transit.proofs.OneWay.{one_passage46, one_passage64, one_answer4, one_answer6, unnoticed4, unnoticed6, one_carried, all_freed}
 use Rattle.edge_node.specs.declared.way.Way.{Way}
 use Rattle.edge_node.specs.declared.way.Way.TheVariants.{Lan, Access, Turned}
-use Rattle.edge_node.specs.declared.way.Node.{Node}
 use Rattle.edge_node.specs.Asked.{outward, inward, inward_turned, IsAsk, IsDroppedAt}
 use Rattle.edge_node.specs.Ends.{ends_out, ends_in}
-use Rattle.edge_node.specs.Hop.{IsReplyToLan, IsReplyToAccess, Drops, GoesOut, Turns, ComesIn, FromLan, FromAccess, FromItself, Becomes, IsLaterAt, Own, IsEdgeHop}
+use Rattle.edge_node.specs.Hop.{Node, IsReplyToLan, IsReplyToAccess, Drops, GoesOut, Turns, ComesIn, FromLan, FromAccess, FromItself, Becomes, IsLaterAt, Own, IsEdgeHop}
 
 -- what is asked is one
 pub one_ask : (way : Way) (octets : List ℕ) → IsTakenOrDropped (λ (ask : Ask). IsAsk way octets ask) (λ (cause : Cause). IsDroppedAt way cause octets)

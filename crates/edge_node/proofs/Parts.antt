@@ -19,8 +19,7 @@ use Rattle.transit.specs.declared.passage.Passage.{Passage}
 use Rattle.transit.specs.declared.passage.Passage.TheVariants.{Sent, Cut, Spent, TooBig}
 use Rattle.transit.specs.Hop.{nothing, then, sends, sends_pieces, IsCarried}
 use Rattle.transit.specs.Reply.{has_notice, notice4, notice6, IsAnswer4, IsAnswer6}
-use Rattle.edge_node.specs.declared.way.Node.{Node}
-use Rattle.edge_node.specs.Hop.{IsReplyToLan, IsReplyToAccess, IsReadable4, IsReadable6}
+use Rattle.edge_node.specs.Hop.{Node, IsReplyToLan, IsReplyToAccess, IsReadable4, IsReadable6}
 use Rattle.edge_node.specs.Leaves.{Leaves}
 
 -- what follows from a fact of a success

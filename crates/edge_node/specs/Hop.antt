@@ -34,9 +34,14 @@ use Rattle.transit.specs.Hop.{nothing, sends, drops, then, IsCarried, AreFreed}
 use Rattle.turned_packets.specs.Turned.{turned_out, turned_in}
 use Rattle.edge_node.specs.declared.way.Way.{Way}
 use Rattle.edge_node.specs.declared.way.Way.TheVariants.{Lan, Access, Turned}
-use Rattle.edge_node.specs.declared.way.Node.{Node}
+use Rattle.edge_node.specs.declared.way.EdgeParams.{EdgeParams}
 use Rattle.edge_node.specs.Asked.{IsDroppedAt}
 use Rattle.edge_node.specs.Ends.{ends_out, ends_in}
+
+-- an edge as it emits a packet: what it goes by, and the identification of packets that have none of their own
+pub record Node : Type 0 where
+  pub params : EdgeParams
+  pub id : ℕ
 
 -- the error by which a packet from the LAN is answered: from the edge's own address there
 abbrev pub IsReplyToLan : Node → Cause → List ℕ → Option (List ℕ) → Type 0

@@ -1,4 +1,5 @@
 pub mod Asked
 pub mod Ends
 pub mod Hop
+pub mod Inside
 pub mod Leaves

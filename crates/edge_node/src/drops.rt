@@ -6,6 +6,7 @@ ghost use Rattle.edge_node.specs.declared.way.Way.TheVariants.{Lan as AtLan, Acc
 ghost use Rattle.transit.specs.Reply.{has_notice};
 ghost use Rattle.transit.specs.Hop.{then, sends, sends_pieces};
 ghost use Rattle.edge_node.specs.Hop.{IsReadable4, IsReadable6, Drops};
+ghost use Rattle.edge_node.specs.Inside.{node_in};
 ghost use Rattle.edge_node.specs.Leaves.{Leaves};
 
 use crate::way::Node;
@@ -24,7 +25,7 @@ pub(crate) fn drop_from_lan(
     cause: Cause,
 ) -> Result<(), NoMemory>
     requires { IsTrue (has_notice cause) → IsReadable4 octets.now }
-    ensures { OnOk result ((part : AnyHop) × Drops node.now AtLan octets.now cause part × (hop.new ≡ then hop.old part)) }
+    ensures { OnOk result ((part : AnyHop) × Drops (node_in node.now) AtLan octets.now cause part × (hop.new ≡ then hop.old part)) }
 {
     let reply = reply4(
         alloc,
@@ -46,7 +47,7 @@ pub(crate) fn drop_from_access(
     cause: Cause,
 ) -> Result<(), NoMemory>
     requires { IsTrue (has_notice cause) → IsReadable6 octets.now }
-    ensures { OnOk result ((part : AnyHop) × Drops node.now AtAccess octets.now cause part × (hop.new ≡ then hop.old part)) }
+    ensures { OnOk result ((part : AnyHop) × Drops (node_in node.now) AtAccess octets.now cause part × (hop.new ≡ then hop.old part)) }
 {
     match Head6::read(octets) {
         Ok(head) => {
@@ -64,7 +65,7 @@ pub(crate) fn drop_turned(
     octets: &[u8],
     cause: Cause,
 ) -> Result<(), NoMemory>
-    ensures { OnOk result ((part : AnyHop) × Drops node.now AtItself octets.now cause part × (hop.new ≡ then hop.old part)) }
+    ensures { OnOk result ((part : AnyHop) × Drops (node_in node.now) AtItself octets.now cause part × (hop.new ≡ then hop.old part)) }
 {
     drop_packet(hop, cause, Exit::ToLan, None)
 }

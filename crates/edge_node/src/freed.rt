@@ -4,6 +4,7 @@ ghost use Rattle.packet_faults.specs.declared.hop.Hop.{Hop as AnyHop};
 ghost use Rattle.transit.specs.Hop.{then, IsFreed, AreFreed};
 ghost use Rattle.edge_node.specs.declared.way.Way.TheVariants.{Lan as AtLan, Access as AtAccess, Turned as AtItself};
 ghost use Rattle.edge_node.specs.Hop.{Becomes, IsLaterAt, IsAnswerAt};
+ghost use Rattle.edge_node.specs.Inside.{node_in};
 
 use crate::inward::{from_access, from_itself};
 use crate::outward::from_lan;
@@ -23,7 +24,7 @@ fn freed_from_lan(
     octets: &[u8],
 ) -> Result<(), NoMemory>
     requires { IsAnswerAt AtLan answer.now }
-    ensures { OnOk result ((part : AnyHop) × IsFreed (IsLaterAt AtLan) (Becomes node.now AtLan answer.now) octets.now part × (hop.new ≡ then hop.old part)) }
+    ensures { OnOk result ((part : AnyHop) × IsFreed (IsLaterAt AtLan) (Becomes (node_in node.now) AtLan answer.now) octets.now part × (hop.new ≡ then hop.old part)) }
 {
     match Packet4::read(alloc, octets) {
         Ok(packet) => match packet.content {
@@ -44,7 +45,7 @@ fn freed_from_access(
     octets: &[u8],
 ) -> Result<(), NoMemory>
     requires { IsAnswerAt AtAccess answer.now }
-    ensures { OnOk result ((part : AnyHop) × IsFreed (IsLaterAt AtAccess) (Becomes node.now AtAccess answer.now) octets.now part × (hop.new ≡ then hop.old part)) }
+    ensures { OnOk result ((part : AnyHop) × IsFreed (IsLaterAt AtAccess) (Becomes (node_in node.now) AtAccess answer.now) octets.now part × (hop.new ≡ then hop.old part)) }
 {
     match Packet6::read(alloc, octets, false) {
         Ok(packet) => match packet.content {
@@ -65,7 +66,7 @@ fn freed_from_itself(
     octets: &[u8],
 ) -> Result<(), NoMemory>
     requires { IsAnswerAt AtItself answer.now }
-    ensures { OnOk result ((part : AnyHop) × IsFreed (IsLaterAt AtItself) (Becomes node.now AtItself answer.now) octets.now part × (hop.new ≡ then hop.old part)) }
+    ensures { OnOk result ((part : AnyHop) × IsFreed (IsLaterAt AtItself) (Becomes (node_in node.now) AtItself answer.now) octets.now part × (hop.new ≡ then hop.old part)) }
 {
     match Packet4::read(alloc, octets) {
         Ok(packet) => match packet.content {
@@ -87,7 +88,7 @@ fn freed_one(
     octets: &[u8],
 ) -> Result<(), NoMemory>
     requires { IsAnswerAt way answer.now }
-    ensures { OnOk result ((part : AnyHop) × IsFreed (IsLaterAt way) (Becomes node.now way answer.now) octets.now part × (hop.new ≡ then hop.old part)) }
+    ensures { OnOk result ((part : AnyHop) × IsFreed (IsLaterAt way) (Becomes (node_in node.now) way answer.now) octets.now part × (hop.new ≡ then hop.old part)) }
 {
     match way {
         Way::Lan => freed_from_lan(alloc, hop, node, answer, octets),
@@ -106,7 +107,7 @@ pub(crate) fn freed_all(
     parcels: &[Parcel],
 ) -> Result<(), NoMemory>
     requires { IsAnswerAt way answer.now }
-    ensures { OnOk result ((part : AnyHop) × AreFreed (IsLaterAt way) (Becomes node.now way answer.now) parcels.now part × (hop.new ≡ then hop.old part)) }
+    ensures { OnOk result ((part : AnyHop) × AreFreed (IsLaterAt way) (Becomes (node_in node.now) way answer.now) parcels.now part × (hop.new ≡ then hop.old part)) }
 {
     match parcels {
         [] => Ok(()),

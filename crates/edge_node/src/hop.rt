@@ -5,6 +5,7 @@ ghost use Rattle.transit.specs.Hop.{then, AreFreed};
 ghost use Rattle.nat_model.specs.Waiting.{freed_of};
 ghost use Rattle.edge_node.specs.declared.way.Way.TheVariants.{Lan as AtLan, Access as AtAccess, Turned as AtItself};
 ghost use Rattle.edge_node.specs.Hop.{Own, Becomes, IsLaterAt, IsEdgeHop, IsEmittable};
+ghost use Rattle.edge_node.specs.Inside.{node_in};
 
 use crate::drops::{drop_from_access, drop_from_lan, drop_turned};
 use crate::freed::freed_all;
@@ -27,7 +28,7 @@ fn own_from_lan(
     octets: &[u8],
 ) -> Result<(), NoMemory>
     requires { IsEmittable AtLan answer.now octets.now }
-    ensures { OnOk result ((part : AnyHop) × Own node.now AtLan answer.now octets.now part × (hop.new ≡ then hop.old part)) }
+    ensures { OnOk result ((part : AnyHop) × Own (node_in node.now) AtLan answer.now octets.now part × (hop.new ≡ then hop.old part)) }
 {
     match Packet4::read(alloc, octets) {
         Ok(packet) => from_lan(alloc, hop, node, answer, &packet, octets),
@@ -45,7 +46,7 @@ fn own_from_access(
     octets: &[u8],
 ) -> Result<(), NoMemory>
     requires { IsEmittable AtAccess answer.now octets.now }
-    ensures { OnOk result ((part : AnyHop) × Own node.now AtAccess answer.now octets.now part × (hop.new ≡ then hop.old part)) }
+    ensures { OnOk result ((part : AnyHop) × Own (node_in node.now) AtAccess answer.now octets.now part × (hop.new ≡ then hop.old part)) }
 {
     match Packet6::read(alloc, octets, false) {
         Ok(packet) => from_access(alloc, hop, node, answer, &packet, octets),
@@ -63,7 +64,7 @@ fn own_from_itself(
     octets: &[u8],
 ) -> Result<(), NoMemory>
     requires { IsEmittable AtItself answer.now octets.now }
-    ensures { OnOk result ((part : AnyHop) × Own node.now AtItself answer.now octets.now part × (hop.new ≡ then hop.old part)) }
+    ensures { OnOk result ((part : AnyHop) × Own (node_in node.now) AtItself answer.now octets.now part × (hop.new ≡ then hop.old part)) }
 {
     match Packet4::read(alloc, octets) {
         Ok(packet) => from_itself(alloc, hop, node, answer, &packet, octets),
@@ -82,7 +83,7 @@ fn own(
     octets: &[u8],
 ) -> Result<(), NoMemory>
     requires { IsEmittable way answer.now octets.now }
-    ensures { OnOk result ((part : AnyHop) × Own node.now way answer.now octets.now part × (hop.new ≡ then hop.old part)) }
+    ensures { OnOk result ((part : AnyHop) × Own (node_in node.now) way answer.now octets.now part × (hop.new ≡ then hop.old part)) }
 {
     match way {
         Way::Lan => own_from_lan(alloc, hop, node, answer, octets),
@@ -114,7 +115,7 @@ fn freed(
     octets: &[u8],
 ) -> Result<(), NoMemory>
     requires { IsEmittable way answer.now octets.now }
-    ensures { OnOk result ((part : AnyHop) × AreFreed (IsLaterAt way) (Becomes node.now way answer.now) (freed_of answer.now) part × (hop.new ≡ then hop.old part)) }
+    ensures { OnOk result ((part : AnyHop) × AreFreed (IsLaterAt way) (Becomes (node_in node.now) way answer.now) (freed_of answer.now) part × (hop.new ≡ then hop.old part)) }
 {
     let freed = freed_by(answer);
     if freed.is_empty() {

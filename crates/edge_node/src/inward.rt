@@ -8,6 +8,7 @@ ghost use Rattle.transit.specs.Hop.{then};
 ghost use Rattle.edge_node.specs.declared.way.Way.TheVariants.{Access as AtAccess, Turned as AtItself};
 ghost use Rattle.edge_node.specs.Ends.{with_far_port, ends_in};
 ghost use Rattle.edge_node.specs.Hop.{ComesIn, FromAccess, FromItself, IsAnswerAt};
+ghost use Rattle.edge_node.specs.Inside.{node_in};
 
 use crate::drops::{drop_from_access, drop_turned, leave};
 use crate::way::Node;
@@ -72,7 +73,7 @@ fn come_in(
     peer: Addr4,
 ) -> Result<(), NoMemory>
     requires { IsPacket6 false packet.now octets.now }
-    ensures { OnOk result ((part : AnyHop) × ComesIn node.now octets.now to port from peer packet.now part × (hop.new ≡ then hop.old part)) }
+    ensures { OnOk result ((part : AnyHop) × ComesIn (node_in node.now) octets.now to port from peer packet.now part × (hop.new ≡ then hop.old part)) }
 {
     let ends = ends_in(&packet.flow(), to, port, from, peer);
     let passage = passage64(alloc, node.params.mtus, packet, octets, &ends, node.id)?;
@@ -93,7 +94,7 @@ pub(crate) fn from_access(
 ) -> Result<(), NoMemory>
     requires is { IsPacket6 false packet.now octets.now }
     requires answer { IsAnswerAt AtAccess answer.now }
-    ensures { OnOk result ((part : AnyHop) × FromAccess node.now answer.now octets.now packet.now part × (hop.new ≡ then hop.old part)) }
+    ensures { OnOk result ((part : AnyHop) × FromAccess (node_in node.now) answer.now octets.now packet.now part × (hop.new ≡ then hop.old part)) }
 {
     match answer {
         Answer::In {
@@ -120,7 +121,7 @@ pub(crate) fn from_itself(
 ) -> Result<(), NoMemory>
     requires is { IsPacket4 packet.now octets.now }
     requires answer { IsAnswerAt AtItself answer.now }
-    ensures { OnOk result ((part : AnyHop) × FromItself node.now answer.now octets.now packet.now part × (hop.new ≡ then hop.old part)) }
+    ensures { OnOk result ((part : AnyHop) × FromItself (node_in node.now) answer.now octets.now packet.now part × (hop.new ≡ then hop.old part)) }
 {
     match answer {
         Answer::In { to, port, .. } => {

@@ -3,10 +3,9 @@
 ghost use Rattle.std.specs.Prelude.{ℕ, List};
 ghost use Rattle.nat_model.specs.declared.answer.Answer.{Answer as AnyAnswer};
 ghost use Rattle.packets.specs.OneOf.{IsOneAtMost, IsTakenOrDropped};
-ghost use Rattle.edge_node.specs.declared.way.Node.{Node as TheNode};
 ghost use Rattle.edge_node.specs.declared.way.Way.{Way as AnyWay};
 ghost use Rattle.edge_node.specs.Asked.{IsAsk, IsDroppedAt};
-ghost use Rattle.edge_node.specs.Hop.{IsEdgeHop};
+ghost use Rattle.edge_node.specs.Hop.{Node, IsEdgeHop};
 
 /// Law: something is asked about each packet, or it is dropped for a cause before anything is asked: one of both always, never
 /// both, and in one way.
@@ -16,5 +15,5 @@ pub fn each_packet_asks_the_edge_or_is_dropped()
 
 /// Law: an edge has one hop at most for a packet and an answer.
 pub fn an_edge_has_one_hop()
-    ensures { (node : TheNode) (way : AnyWay) (answer : AnyAnswer) (octets : List ℕ) → IsOneAtMost (IsEdgeHop node way answer octets) }
+    ensures { (node : Node) (way : AnyWay) (answer : AnyAnswer) (octets : List ℕ) → IsOneAtMost (IsEdgeHop node way answer octets) }
 {}

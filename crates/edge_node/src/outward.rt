@@ -8,6 +8,7 @@ ghost use Rattle.transit.specs.Hop.{then};
 ghost use Rattle.edge_node.specs.declared.way.Way.TheVariants.{Lan as AtLan};
 ghost use Rattle.edge_node.specs.Ends.{with_near_port, ends_out};
 ghost use Rattle.edge_node.specs.Hop.{GoesOut, Turns, FromLan, IsAnswerAt};
+ghost use Rattle.edge_node.specs.Inside.{node_in};
 
 use crate::drops::{drop_from_lan, leave};
 use crate::way::Node;
@@ -71,7 +72,7 @@ fn go_out(
     dst6: Addr6,
 ) -> Result<(), NoMemory>
     requires { IsPacket4 packet.now octets.now }
-    ensures { OnOk result ((part : AnyHop) × GoesOut node.now octets.now port src6 dst6 packet.now part × (hop.new ≡ then hop.old part)) }
+    ensures { OnOk result ((part : AnyHop) × GoesOut (node_in node.now) octets.now port src6 dst6 packet.now part × (hop.new ≡ then hop.old part)) }
 {
     let ends = ends_out(&packet.flow(), port, src6, dst6);
     let passage = passage46(alloc, node.params.mtus, packet, octets, &ends)?;
@@ -92,7 +93,7 @@ fn turn(
     port: u16,
 ) -> Result<(), NoMemory>
     requires { IsPacket4 packet.now octets.now }
-    ensures { OnOk result ((part : AnyHop) × Turns node.now octets.now from port packet.now part × (hop.new ≡ then hop.old part)) }
+    ensures { OnOk result ((part : AnyHop) × Turns (node_in node.now) octets.now from port packet.now part × (hop.new ≡ then hop.old part)) }
 {
     if packet.head.ttl <= 1 {
         return drop_from_lan(alloc, hop, node, octets, Cause::TtlSpent);
@@ -112,7 +113,7 @@ pub(crate) fn from_lan(
 ) -> Result<(), NoMemory>
     requires is { IsPacket4 packet.now octets.now }
     requires answer { IsAnswerAt AtLan answer.now }
-    ensures { OnOk result ((part : AnyHop) × FromLan node.now answer.now octets.now packet.now part × (hop.new ≡ then hop.old part)) }
+    ensures { OnOk result ((part : AnyHop) × FromLan (node_in node.now) answer.now octets.now packet.now part × (hop.new ≡ then hop.old part)) }
 {
     match answer {
         Answer::Out {

@@ -1,4 +1,4 @@
--- A hop of the relay (RFC 7599, sections 8.2 and 8.3): what it sends, and what it drops.
+-- A hop of the relay (RFC 7599, sections 8.3 and 8.4): what it sends, and what it drops.
 use Rattle.std.specs.Prelude.{◌≡◌, ℕ, ◌⊎◌, Bool, true, false, List, Option, Some, None}
 use Rattle.octets.specs.declared.cause.Cause.{Cause}
 use Rattle.octets.specs.declared.cause.Cause.TheVariants.{FragmentsFull}

@@ -50,7 +50,7 @@ fn hop4<V: RuleView>(
 /// A packet from the access network goes on to IPv4 where its source is the MAP address, under a rule, of an IPv4 address
 /// for its source port, else it is `Spoofed`, and its destination embeds an address under the default mapping rule, else
 /// it is `NotDefault` (RFC 7599, section 8.3). One from IPv4 goes on to the MAP address of its destination and
-/// destination port, else it has `NoOwner` (RFC 7599, section 8.2). Of an ICMP error the ports are the other ones of the
+/// destination port, else it has `NoOwner` (RFC 7599, section 8.4). Of an ICMP error the ports are the other ones of the
 /// packet that it embeds. What is sent over IPv4 turns where a rule's IPv4 prefix has its destination. A packet whose TTL
 /// is spent, or that is too big, or that has a source route, is answered by an ICMP error where one may answer it, and
 /// other packets are dropped without. Fragments that a first one frees follow it, each as a packet of its flow.

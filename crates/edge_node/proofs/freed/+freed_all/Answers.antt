@@ -4,6 +4,7 @@ use Rattle.octets.specs.declared.parcel.Parcel.{Parcel}
 use Rattle.packet_faults.specs.declared.hop.Hop.{Hop}
 use Rattle.transit.specs.Hop.{nothing, then, IsFreed, AreFreed}
 use Rattle.edge_node.specs.Hop.{Becomes, IsLaterAt}
+use Rattle.edge_node.specs.Inside.{node_in}
 use Rattle.edge_node.proofs.Parts.{on_ok, then_nothing, then_assoc, no_parcels, first_parcel, others_are}
 use Rattle.edge_node.proofs.freed.+freed_all.Goals as goal
 
@@ -13,7 +14,7 @@ returns-in-empty t c = (nothing, rw (no_parcels c.args.parcels.now c.in-empty.le
 pub returns-in_ok-freed_one-in-len1-up : goal.returns-in_ok-freed_one-in-len1-up
 returns-in_ok-freed_one-in-len1-up t c =
     let way = c.args.way in
-    let node = c.args.node.now in
+    let node = node_in c.args.node.now in
     let answer = c.args.answer.now in
     let parcels = c.args.parcels.now in
     let first = c.first-item.result in

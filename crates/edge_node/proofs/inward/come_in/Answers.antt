@@ -11,12 +11,13 @@ use Rattle.transit.specs.Passage64.{IsPassage64}
 use Rattle.edge_node.specs.declared.way.Way.TheVariants.{Access}
 use Rattle.edge_node.specs.Ends.{ends_in}
 use Rattle.edge_node.specs.Hop.{Drops}
+use Rattle.edge_node.specs.Inside.{node_in}
 use Rattle.edge_node.proofs.Parts.{on_ok, left, stayed, carried}
 use Rattle.edge_node.proofs.inward.come_in.Goals as goal
 
 pub returns-in-None : goal.returns-in-None
 returns-in-None c =
-    let node = c.args.node.now in
+    let node = node_in c.args.node.now in
     let p = c.args.packet.now in
     let ends : c.ends_in-ends.result ≡ ends_in (flow_of6 p.content) c.args.to c.args.port c.args.from c.args.peer = c.ends_in-ends.ensures ∙ ap (λ (f : Flow). ends_in f c.args.to c.args.port c.args.from c.args.peer) c.flow.ensures in
     let passes = subst (λ (e : Ends Addr4). IsPassage64 (record { mtus = node.params.mtus; ends = e; id = node.id }) p (payload_of6 p.head c.args.octets.now) c.in_ok-passage.passage) ends c.in_ok-passage.ensures in
@@ -25,7 +26,7 @@ returns-in-None c =
 
 pub returns-in-Some : goal.returns-in-Some
 returns-in-Some c =
-    let node = c.args.node.now in
+    let node = node_in c.args.node.now in
     let p = c.args.packet.now in
     let ends : c.ends_in-ends.result ≡ ends_in (flow_of6 p.content) c.args.to c.args.port c.args.from c.args.peer = c.ends_in-ends.ensures ∙ ap (λ (f : Flow). ends_in f c.args.to c.args.port c.args.from c.args.peer) c.flow.ensures in
     let passes = subst (λ (e : Ends Addr4). IsPassage64 (record { mtus = node.params.mtus; ends = e; id = node.id }) p (payload_of6 p.head c.args.octets.now) c.in_ok-passage.passage) ends c.in_ok-passage.ensures in

@@ -11,12 +11,13 @@ use Rattle.transit.specs.Passage46.{IsPassage46}
 use Rattle.edge_node.specs.declared.way.Way.TheVariants.{Lan}
 use Rattle.edge_node.specs.Ends.{ends_out}
 use Rattle.edge_node.specs.Hop.{Drops}
+use Rattle.edge_node.specs.Inside.{node_in}
 use Rattle.edge_node.proofs.Parts.{on_ok, left, stayed, carried}
 use Rattle.edge_node.proofs.outward.go_out.Goals as goal
 
 pub returns-in-None : goal.returns-in-None
 returns-in-None c =
-    let node = c.args.node.now in
+    let node = node_in c.args.node.now in
     let p = c.args.packet.now in
     let ends : c.ends_out-ends.result ≡ ends_out (flow_of4 p.content) c.args.port c.args.src6 c.args.dst6 = c.ends_out-ends.ensures ∙ ap (λ (f : Flow). ends_out f c.args.port c.args.src6 c.args.dst6) c.flow.ensures in
     let passes = subst (λ (e : Ends Addr6). IsPassage46 node.params.mtus p (payload_of4 p.head c.args.octets.now) e c.in_ok-passage.passage) ends c.in_ok-passage.ensures in
@@ -25,7 +26,7 @@ returns-in-None c =
 
 pub returns-in-Some : goal.returns-in-Some
 returns-in-Some c =
-    let node = c.args.node.now in
+    let node = node_in c.args.node.now in
     let p = c.args.packet.now in
     let ends : c.ends_out-ends.result ≡ ends_out (flow_of4 p.content) c.args.port c.args.src6 c.args.dst6 = c.ends_out-ends.ensures ∙ ap (λ (f : Flow). ends_out f c.args.port c.args.src6 c.args.dst6) c.flow.ensures in
     let passes = subst (λ (e : Ends Addr6). IsPassage46 node.params.mtus p (payload_of4 p.head c.args.octets.now) e c.in_ok-passage.passage) ends c.in_ok-passage.ensures in
