@@ -31,14 +31,11 @@ use Rattle.nat_model.specs.declared.ask.Part.TheVariants.{Whole, First, Later}
 use Rattle.nat_model.specs.declared.ask.Ask.{Ask}
 use Rattle.nat_model.specs.declared.ask.Ask.TheVariants.{Outward, Inward, Keep}
 use Rattle.nat_model.specs.declared.binding.Binding.{Binding}
-use Rattle.nat_model.specs.declared.claim.Wish.{Wish}
-use Rattle.nat_model.specs.declared.fragment.Gathered.{Gathered}
-use Rattle.nat_model.specs.declared.remote.Remote.{Remote}
 use Rattle.nat_model.specs.Binding.{is_of_host, is_of_port, refreshed, kept_until}
-use Rattle.nat_model.specs.Claim.{Bound, bound}
-use Rattle.nat_model.specs.Fragment.{ports_of, part_of, frag_ask_of}
+use Rattle.nat_model.specs.Claim.{Wish, Bound, bound}
+use Rattle.nat_model.specs.Fragment.{Gathered, ports_of, part_of, frag_ask_of}
 use Rattle.nat_model.specs.Kind.{IsMachineCause, IsAnswerTo, IsFirst, IsLater, IsFragment, IsInward, IsFromAccess, NeedsBinding, MayClaim, MayRefuse}
-use Rattle.nat_model.specs.Remote.{found_behind, behind, both, remote, far_port, reached, is_own, sent}
+use Rattle.nat_model.specs.Remote.{Remote, found_behind, behind, both, remote, far_port, reached, is_own, sent}
 use Rattle.nat_model.specs.Refusal.{cause_in, settled}
 use Rattle.nat_model.specs.State.{Generation, NatState, NatStep, Moment, holder_at}
 use Rattle.nat_model.specs.Machine.{refuses, arrives, sent_by, sent_from, sent_flow, sent_error, sent_error_by, received, received_by, with_entry, kept_by, keeps, received_from, passed, told, gathered, held_by, timed, nat}

@@ -28,14 +28,12 @@ use Rattle.nat_model.specs.declared.ask.Far.{Far}
 use Rattle.nat_model.specs.declared.ask.Far.TheVariants.{Six, Turned}
 use Rattle.nat_model.specs.declared.ask.Part.{Part}
 use Rattle.nat_model.specs.declared.binding.Binding.{Binding}
-use Rattle.nat_model.specs.declared.fragment.Gathered.{Gathered}
-use Rattle.nat_model.specs.declared.remote.Remote.{Remote}
 use Rattle.nat_model.specs.Binding.{same_proto, is_of_port}
 use Rattle.nat_model.specs.Delivered.{told_ports, stepped_ports, gone_by, sent_to, IsEndOf, IsDelivered, IsDeliveredAlone}
-use Rattle.nat_model.specs.Fragment.{ports_of, frag_ask_of}
+use Rattle.nat_model.specs.Fragment.{Gathered, ports_of, frag_ask_of}
 use Rattle.nat_model.specs.Machine.{refuses, is_for, received, received_by, received_from, with_entry, told, gathered, held_by, timed, nat}
 use Rattle.nat_model.specs.Refusal.{settled}
-use Rattle.nat_model.specs.Remote.{remote}
+use Rattle.nat_model.specs.Remote.{Remote, remote}
 use Rattle.nat_model.specs.Sound.{AreApart, IsSound}
 use Rattle.nat_model.specs.State.{NatState, NatStep, Moment, holder_at}
 use Rattle.nat_model.proofs.EachStep.{renewed-sound, at_time-sound}

@@ -19,13 +19,10 @@ use Rattle.nat_model.specs.declared.ask.End4.{End4}
 use Rattle.nat_model.specs.declared.ask.Ask.{Ask}
 use Rattle.nat_model.specs.declared.ask.Ask.TheVariants.{Outward, Inward, Keep}
 use Rattle.nat_model.specs.declared.binding.Binding.{Binding}
-use Rattle.nat_model.specs.declared.claim.Wish.{Wish}
-use Rattle.nat_model.specs.declared.fragment.Gathered.{Gathered}
-use Rattle.nat_model.specs.declared.remote.Remote.{Remote}
 use Rattle.nat_model.specs.Binding.{is_of_host, is_of_port, is_unexpired, is_claimable_by, outlives, refreshed, entered, kept_until}
-use Rattle.nat_model.specs.Claim.{Bound, bound}
-use Rattle.nat_model.specs.Fragment.{ports_of, part_of, frag_ask_of}
-use Rattle.nat_model.specs.Remote.{remote}
+use Rattle.nat_model.specs.Claim.{Wish, Bound, bound}
+use Rattle.nat_model.specs.Fragment.{Gathered, ports_of, part_of, frag_ask_of}
+use Rattle.nat_model.specs.Remote.{Remote, remote}
 use Rattle.std.specs.Prelude.{OnOk, OnErr}
 use Rattle.map_rules.specs.declared.rule.Rule.{Rule}
 use Rattle.map_rules.specs.declared.dmr.Dmr.{Dmr}

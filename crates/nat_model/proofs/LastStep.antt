@@ -9,11 +9,10 @@ use Rattle.rule_book.specs.Holder.{Holder}
 use Rattle.nat_model.specs.declared.answer.Answer.TheVariants.{In}
 use Rattle.nat_model.specs.declared.ask.End4.{End4}
 use Rattle.nat_model.specs.declared.binding.Binding.{Binding}
-use Rattle.nat_model.specs.declared.claim.Wish.{Wish}
-use Rattle.nat_model.specs.declared.fragment.Gathered.{Gathered}
-use Rattle.nat_model.specs.declared.remote.Remote.{Remote}
 use Rattle.nat_model.specs.Binding.{is_of_host, is_of_port, refreshed, entered, kept_until}
-use Rattle.nat_model.specs.Claim.{Bound, bound, bound_as, claimed_port, claim}
+use Rattle.nat_model.specs.Claim.{Wish, Bound, bound, bound_as, claimed_port, claim}
+use Rattle.nat_model.specs.Fragment.{Gathered}
+use Rattle.nat_model.specs.Remote.{Remote}
 use Rattle.nat_model.proofs.Claims.{place-tells, no-place}
 use Rattle.nat_model.specs.State.{NatState}
 use Rattle.nat_model.specs.Machine.{ends, refuses, with_bindings, with_entry, received, received_by, sent_error, sent_error_by, sent_flow, sent_by, sent_from, keeps, kept_by}

@@ -16,13 +16,10 @@ use Rattle.nat_model.specs.declared.ask.End4.{End4}
 use Rattle.nat_model.specs.declared.ask.Ask.{Ask}
 use Rattle.nat_model.specs.declared.ask.Ask.TheVariants.{Outward, Inward, Keep}
 use Rattle.nat_model.specs.declared.binding.Binding.{Binding}
-use Rattle.nat_model.specs.declared.claim.Wish.{Wish}
-use Rattle.nat_model.specs.declared.fragment.Gathered.{Gathered}
-use Rattle.nat_model.specs.declared.remote.Remote.{Remote}
 use Rattle.nat_model.specs.Binding.{refreshed, kept_until, is_of_host, is_of_port}
-use Rattle.nat_model.specs.Claim.{Bound, bound}
-use Rattle.nat_model.specs.Fragment.{ports_of, part_of, frag_ask_of}
-use Rattle.nat_model.specs.Remote.{remote}
+use Rattle.nat_model.specs.Claim.{Wish, Bound, bound}
+use Rattle.nat_model.specs.Fragment.{Gathered, ports_of, part_of, frag_ask_of}
+use Rattle.nat_model.specs.Remote.{Remote, remote}
 use Rattle.nat_model.specs.State.{Generation, NatState, NatStep, Moment, holder_at}
 use Rattle.nat_model.specs.Machine.{refuses, sent_by, sent_flow, sent_error_by, sent_error, received_by, received, kept_by, keeps, received_from, passed, told, gathered, arrives, held_by, at_time, staying, renewed, timed, with_entry, nat}
 use Rattle.std.proofs.lemmas.Bool.{ltb-true, ltb-false}

@@ -22,12 +22,10 @@ use Rattle.nat_model.specs.declared.ask.End4.{End4}
 use Rattle.nat_model.specs.declared.ask.Part.{Part}
 use Rattle.nat_model.specs.declared.ask.Part.TheVariants.{Whole}
 use Rattle.nat_model.specs.declared.binding.Binding.{Binding}
-use Rattle.nat_model.specs.declared.claim.Wish.{Wish}
-use Rattle.nat_model.specs.declared.fragment.Gathered.{Gathered}
 use Rattle.nat_model.specs.Binding.{is_of_host, refreshed, kept_until}
-use Rattle.nat_model.specs.Claim.{Bound, bound, bound_as, added, claim, claimed_port}
+use Rattle.nat_model.specs.Claim.{Wish, Bound, bound, bound_as, added, claim, claimed_port}
 use Rattle.nat_model.specs.Delivered.{told_ports, stepped_ports, gone_by, FindsNoPort}
-use Rattle.nat_model.specs.Fragment.{ports_of, frag_ask_of}
+use Rattle.nat_model.specs.Fragment.{Gathered, ports_of, frag_ask_of}
 use Rattle.nat_model.specs.Machine.{sent_by, sent_flow, kept_by, keeps, passed, told, gathered, held_by, timed, nat}
 use Rattle.nat_model.specs.Refusal.{cause_in, settled}
 use Rattle.nat_model.specs.Remote.{far_port, reached, is_own, sent}

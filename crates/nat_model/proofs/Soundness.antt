@@ -10,9 +10,8 @@ use Rattle.octets.specs.declared.proto.Proto.{Proto}
 use Rattle.octets.specs.declared.proto.Proto.TheVariants.{Tcp, Udp, Icmp}
 use Rattle.rule_book.specs.Holder.{Holder}
 use Rattle.nat_model.specs.declared.binding.Binding.{Binding}
-use Rattle.nat_model.specs.declared.claim.Wish.{Wish}
 use Rattle.nat_model.specs.Binding.{same_proto, is_of_host, is_of_port, is_claimable_by, refreshed, entered, kept_until, first_changed}
-use Rattle.nat_model.specs.Claim.{is_free, least_below, least_or_this, claimed_port, claim, Bound, bound, bound_as, added}
+use Rattle.nat_model.specs.Claim.{Wish, is_free, least_below, least_or_this, claimed_port, claim, Bound, bound, bound_as, added}
 use Rattle.nat_model.specs.Sound.{AreApart, AreSound}
 
 -- a binding has the same protocol, host end and outside port

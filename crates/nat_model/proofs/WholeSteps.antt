@@ -6,9 +6,8 @@ use Rattle.std.proofs.lemmas.List.Folds.{Any-from_list_any, list_any-from_Any}
 use Rattle.octets.specs.declared.prefix.Prefix6.{Prefix6}
 use Rattle.rule_book.specs.Holder.{Holder}
 use Rattle.nat_model.specs.declared.binding.Binding.{Binding}
-use Rattle.nat_model.specs.declared.claim.Wish.{Wish}
 use Rattle.nat_model.specs.Binding.{is_of_port, is_claimable_by}
-use Rattle.nat_model.specs.Claim.{is_free, least_below, least_or_this, claimed_port}
+use Rattle.nat_model.specs.Claim.{Wish, is_free, least_below, least_or_this, claimed_port}
 use Rattle.nat_model.specs.State.{NatState}
 use Rattle.nat_model.specs.Refusal.{IsFull}
 use Rattle.nat_model.specs.Run.{Asked, state_after, step_of}

@@ -4,10 +4,16 @@ use Rattle.std.specs.Prelude.{ℕ, ◌+◌, ◌&&◌, not, Bool, false, if◌the
 use Rattle.std.specs.List.{list_any, find}
 use Rattle.octets.specs.declared.proto.Proto.{Proto}
 use Rattle.rule_book.specs.Holder.{Holder}
-use Rattle.nat_model.specs.declared.claim.Wish.{Wish}
+use Rattle.nat_model.specs.declared.ask.End4.{End4}
 use Rattle.nat_model.specs.declared.binding.Binding.{Binding}
 use Rattle.nat_model.specs.Binding.{is_of_host, is_of_port, is_claimable_by, first_changed}
 use Rattle.nat_model.specs.Timer.{timer}
+
+-- a host end that wants a binding of this protocol, by preference with this outside port
+pub record Wish : Type 0 where
+  pub proto : Proto
+  pub near : End4
+  pub port : ℕ
 
 -- the holder may claim the port, and no binding of the protocol has it
 abbrev pub is_free : Holder → Proto → List Binding → ℕ → Bool

@@ -1,5 +1,6 @@
 -- The fragment of an ask: which fragment step it takes, and the ports that it goes by.
-use Rattle.std.specs.Prelude.{ℕ, Option, Some, None}
+use Rattle.std.specs.Prelude.{ℕ, List, Option, Some, None}
+use Rattle.octets.specs.declared.parcel.Parcel.{Parcel}
 use Rattle.l4_headers.specs.declared.ports.Ports.{Ports}
 use Rattle.frag_table.specs.declared.ask.FragAsk.{FragAsk}
 use Rattle.frag_table.specs.declared.ask.FragAsk.TheVariants.{First as FirstAsk, Later as LaterAsk}
@@ -9,6 +10,11 @@ use Rattle.nat_model.specs.declared.ask.Far.{Far}
 use Rattle.nat_model.specs.declared.ask.Far.TheVariants.{Six, Turned}
 use Rattle.nat_model.specs.declared.ask.Ask.{Ask}
 use Rattle.nat_model.specs.declared.ask.Ask.TheVariants.{Outward, Inward, Keep}
+
+-- what a packet goes by once its fragment step is made: its ports, and the fragments that it frees
+pub record Gathered : Type 0 where
+  pub ports : Ports
+  pub freed : List Parcel
 
 -- the remote port
 abbrev pub port_of : Far → ℕ

@@ -20,12 +20,9 @@ use Rattle.nat_model.specs.declared.ask.Ask.{Ask}
 use Rattle.nat_model.specs.declared.ask.Ask.TheVariants.{Outward, Inward, Keep}
 use Rattle.nat_model.specs.declared.binding.Binding.{Binding}
 use Rattle.nat_model.specs.Binding.{is_of_host, is_of_port, is_unexpired, outlives, refreshed, entered, kept_until, first_changed}
-use Rattle.nat_model.specs.declared.claim.Wish.{Wish}
-use Rattle.nat_model.specs.declared.fragment.Gathered.{Gathered}
-use Rattle.nat_model.specs.declared.remote.Remote.{Remote}
-use Rattle.nat_model.specs.Claim.{Bound, bound}
-use Rattle.nat_model.specs.Fragment.{ports_of, part_of, frag_ask_of}
-use Rattle.nat_model.specs.Remote.{remote, far_port, sent}
+use Rattle.nat_model.specs.Claim.{Wish, Bound, bound}
+use Rattle.nat_model.specs.Fragment.{Gathered, ports_of, part_of, frag_ask_of}
+use Rattle.nat_model.specs.Remote.{Remote, remote, far_port, sent}
 use Rattle.nat_model.specs.State.{Generation, NatState, NatStep, Moment, holder_at}
 
 -- a step that changes nothing more

@@ -19,8 +19,12 @@ use Rattle.nat_model.specs.declared.answer.Answer.TheVariants.{Out, Turn}
 use Rattle.nat_model.specs.declared.ask.End4.{End4}
 use Rattle.nat_model.specs.declared.ask.Far.{Far}
 use Rattle.nat_model.specs.declared.ask.Far.TheVariants.{Six, Turned}
-use Rattle.nat_model.specs.declared.remote.Remote.{Remote}
 use Rattle.nat_model.specs.State.{Generation}
+
+-- the IPv4 addresses from which an inward packet comes, and with which its flow is
+pub record Remote : Type 0 where
+  pub from : Addr4
+  pub peer : Addr4
 
 -- an address that was looked for, or the cause for which there is none
 abbrev pub found_behind : FarOf → Result Addr4 Cause

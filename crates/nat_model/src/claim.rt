@@ -40,6 +40,7 @@ pub(crate) fn place_of_port(bindings: &[Binding], proto: Proto, port: u16) -> Op
 
 impl Wish {
     ghost use Rattle.nat_model.specs.Claim.{is_free, least_below, claimed_port, claim, bound, Bound};
+    ghost use Rattle.nat_model.specs.Inside.{wish_in};
 
     /// The binding of the protocol and host end, or else a claim, which is added at the end; `None` where no port
     /// is free. `clock` is the time of the claim.
@@ -52,12 +53,12 @@ impl Wish {
         requires room { vec_len bindings.old < vec_capacity bindings.old }
         requires clock { clock < 2 ^ 63 }
         ensures none { MatchOption result
-            ((change : BindingType → BindingType) → bound (holder_in edge.now) clock self change bindings.old.items ≡ None)
+            ((change : BindingType → BindingType) → bound (holder_in edge.now) clock (wish_in self) change bindings.old.items ≡ None)
             (λ p. p.at < length bindings.new.items) }
         ensures some { MatchOption result
             (bindings.new.items ≡ bindings.old.items)
             (λ p. (change : BindingType → BindingType)
-            → bound (holder_in edge.now) clock self change bindings.old.items
+            → bound (holder_in edge.now) clock (wish_in self) change bindings.old.items
             ≡ Some (record { binding = change p.binding; bindings = slice_set bindings.new.items p.at (change p.binding) })) }
     {
         if let Some(at) = place_of_host(bindings, self.proto, self.near) {
@@ -76,7 +77,7 @@ impl Wish {
     /// The port of a claim: the one that is wished, where it is free, and else the least that is.
     #[tactic(auto, unfolding(crate::specs::Claim::claimed_port))]
     fn claimed_port(&self, edge: &EdgeId, bindings: &[Binding]) -> Option<u16>
-        ensures { result ≡ claimed_port (holder_in edge.now) self.now bindings.now }
+        ensures { result ≡ claimed_port (holder_in edge.now) (wish_in self.now) bindings.now }
     {
         if self.is_free(edge, bindings, self.port) {
             return Some(self.port);
@@ -116,7 +117,7 @@ impl Wish {
     /// A claim of this port at this time.
     fn claimed(&self, port: u16, clock: u64) -> Binding
         requires { clock < 2 ^ 63 }
-        ensures { result ≡ claim clock self.now port }
+        ensures { result ≡ claim clock (wish_in self.now) port }
     {
         Binding {
             proto: self.proto,

@@ -7,15 +7,8 @@ use crate::{Ask, Far, Part};
 use frag_table::FragAsk;
 use l4_headers::Ports;
 use map_rules::EdgeId;
-use octets::{NoMemory, Parcels};
+use octets::NoMemory;
 use std::alloc::Global;
-
-/// What a packet is translated by once its fragment step is made: its ports, and the fragments that it frees.
-#[derive(Debug, Drop)]
-pub(crate) struct Gathered {
-    pub(crate) ports: Ports,
-    pub(crate) freed: Parcels,
-}
 
 /// The ports of the packet that is asked about, its source's first.
 pub(crate) fn ports_of(ask: &Ask) -> Ports

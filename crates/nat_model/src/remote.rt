@@ -1,5 +1,6 @@
-ghost use Rattle.std.specs.Prelude.{◌≡◌};
+ghost use Rattle.std.specs.Prelude.{◌≡◌, Ok, Err, IfOk, IfErr};
 ghost use Rattle.rule_book.specs.Holder.{holder_in};
+ghost use Rattle.nat_model.specs.Inside.{remote_in};
 ghost use Rattle.nat_model.specs.State.{generation_in};
 ghost use Rattle.nat_model.specs.Remote.{found_behind, behind, remote, far_port, reached, is_own, sent};
 
@@ -19,7 +20,8 @@ pub(crate) struct Remote {
 /// for the source before the peer (RFC 7599, section 8.2).
 #[tactic(auto, unfolding(crate::specs::Remote::remote))]
 pub(crate) fn remote_of(book: &Book, far: &Far, port: u16) -> Result<Remote, Cause>
-    ensures { result ≡ remote (generation_in book.now) far.now port }
+    ensures found { IfOk result (λ found. remote (generation_in book.now) far.now port ≡ Ok (remote_in found)) }
+    ensures refused { IfErr result (λ cause. remote (generation_in book.now) far.now port ≡ Err cause) }
 {
     match far {
         Far::Turned { src, peer, .. } => Ok(Remote {

@@ -4,12 +4,14 @@ ghost use Rattle.nat_model.specs.declared.binding.Binding.{Binding as BindingTyp
 ghost use Rattle.rule_book.specs.Holder.{holder_in};
 ghost use Rattle.nat_model.specs.State.{generation_in, state_at};
 ghost use Rattle.nat_model.specs.Fragment.{part_of, ports_of, frag_ask_of};
+ghost use Rattle.nat_model.specs.Inside.{wish_in, remote_in};
 
 use crate::claim::{Wish, place_of_host, place_of_port};
-use crate::fragment::{Gathered, frag_ask_of, ports_of};
+use crate::fragment::{frag_ask_of, ports_of};
 use crate::remote::{Remote, far_port, remote_of, sent};
 use crate::{Answer, Ask, Binding, End4};
 use frag_table::{FragAnswer, FragTable};
+use l4_headers::Ports;
 use map_rules::EdgeId;
 use octets::{Cause, NoMemory, Parcels, Proto};
 use rule_book::Book;
@@ -45,7 +47,7 @@ impl Standing<'_> {
         requires room { vec_len bindings.old < vec_capacity bindings.old }
         requires clock { self.now.clock < 2 ^ 63 }
         ensures { (notes : List NoteType)
-            → sent_flow (holder_in self.now.edge) (state_at (generation_in self.now.book.now) self.now.clock bindings.old.items notes) wish far freed
+            → sent_flow (holder_in self.now.edge) (state_at (generation_in self.now.book.now) self.now.clock bindings.old.items notes) (wish_in wish) far freed
             ≡ record { after = state_at (generation_in self.now.book.now) self.now.clock bindings.new.items notes; answer = result } }
     {
         let Some(placed) = wish.placed(&self.edge, self.clock, bindings) else {
@@ -62,7 +64,7 @@ impl Standing<'_> {
         requires room { vec_len bindings.old < vec_capacity bindings.old }
         requires clock { self.now.clock < 2 ^ 63 }
         ensures { (notes : List NoteType)
-            → keeps (holder_in self.now.edge) (state_at (generation_in self.now.book.now) self.now.clock bindings.old.items notes) wish until
+            → keeps (holder_in self.now.edge) (state_at (generation_in self.now.book.now) self.now.clock bindings.old.items notes) (wish_in wish) until
             ≡ record { after = state_at (generation_in self.now.book.now) self.now.clock bindings.new.items notes; answer = result } }
     {
         let Some(placed) = wish.placed(&self.edge, self.clock, bindings) else {
@@ -80,7 +82,7 @@ impl Standing<'_> {
     #[tactic(auto, unfolding(crate::specs::Machine::sent_error))]
     fn sent_error(&self, wish: Wish, far: End4, freed: Parcels, bindings: &[Binding]) -> Answer
         ensures { (notes : List NoteType)
-            → sent_error (holder_in self.now.edge) (state_at (generation_in self.now.book.now) self.now.clock bindings.now notes) wish far freed
+            → sent_error (holder_in self.now.edge) (state_at (generation_in self.now.book.now) self.now.clock bindings.now notes) (wish_in wish) far freed
             ≡ record { after = state_at (generation_in self.now.book.now) self.now.clock bindings.now notes; answer = result } }
     {
         let Some(at) = place_of_host(bindings, wish.proto, wish.near) else {
@@ -108,16 +110,17 @@ impl Standing<'_> {
         &self,
         fault: bool,
         proto: Proto,
-        gathered: Gathered,
+        ports: Ports,
+        freed: Parcels,
         remote: Remote,
         bindings: &mut Vec<Binding>,
     ) -> Answer
         requires clock { self.now.clock < 2 ^ 63 }
         ensures { (notes : List NoteType)
-            → received (state_at (generation_in self.now.book.now) self.now.clock bindings.old.items notes) fault proto gathered remote
+            → received (state_at (generation_in self.now.book.now) self.now.clock bindings.old.items notes)
+            fault proto (record { ports = ports; freed = freed }) (remote_in remote)
             ≡ record { after = state_at (generation_in self.now.book.now) self.now.clock bindings.new.items notes; answer = result } }
     {
-        let Gathered { ports, freed } = gathered;
         let Some(at) = place_of_port(bindings, proto, ports.dst) else {
             return refused(Cause::NoBinding, freed);
         };
@@ -138,13 +141,15 @@ impl Standing<'_> {
         &self,
         alloc: Global,
         ask: &Ask,
-        gathered: Gathered,
+        ports: Ports,
+        freed: Parcels,
         bindings: &mut Vec<Binding>,
     ) -> Answer
         requires room { vec_len bindings.old < vec_capacity bindings.old }
         requires clock { self.now.clock < 2 ^ 63 }
         ensures { (notes : List NoteType)
-            → passed (holder_in self.now.edge) (state_at (generation_in self.now.book.now) self.now.clock bindings.old.items notes) ask.now gathered
+            → passed (holder_in self.now.edge) (state_at (generation_in self.now.book.now) self.now.clock bindings.old.items notes)
+            ask.now (record { ports = ports; freed = freed })
             ≡ record { after = state_at (generation_in self.now.book.now) self.now.clock bindings.new.items notes; answer = result } }
     {
         match ask {
@@ -155,7 +160,6 @@ impl Standing<'_> {
                 far,
                 ..
             } => {
-                let Gathered { ports, freed } = gathered;
                 let near = End4 {
                     addr: near.addr,
                     port: ports.src,
@@ -180,9 +184,9 @@ impl Standing<'_> {
                 proto,
                 far,
                 ..
-            } => match remote_of(self.book, far, gathered.ports.src) {
-                Ok(remote) => self.received(*fault, *proto, gathered, remote, bindings),
-                Err(cause) => refused(cause, gathered.freed),
+            } => match remote_of(self.book, far, ports.src) {
+                Ok(remote) => self.received(*fault, *proto, ports, freed, remote, bindings),
+                Err(cause) => refused(cause, freed),
             },
             Ask::Keep {
                 proto,
@@ -226,7 +230,7 @@ impl Standing<'_> {
             FragAnswer::Held => return Answer::Held,
             FragAnswer::Full => return refused(Cause::FragmentsFull, Parcels::new(alloc)),
         };
-        self.passed(alloc, ask, Gathered { ports, freed }, bindings)
+        self.passed(alloc, ask, ports, freed, bindings)
     }
 
     /// What becomes of a packet: a fragment takes its fragment step first, under the place of this one. After want of
@@ -249,11 +253,8 @@ impl Standing<'_> {
         ensures err { OnErr result (notes.new ≡ notes.old) }
     {
         let Some(step) = frag_ask_of(alloc, ask)? else {
-            let whole = Gathered {
-                ports: ports_of(ask),
-                freed: Parcels::new(alloc),
-            };
-            return Ok(self.passed(alloc, ask, whole, bindings));
+            let (ports, freed) = (ports_of(ask), Parcels::new(alloc));
+            return Ok(self.passed(alloc, ask, ports, freed, bindings));
         };
         let answer = notes.step(self.clock, place, &step)?;
         Ok(self.told(alloc, ask, answer, bindings))
