@@ -354,30 +354,30 @@ book_fits number (g ∷ books) other fits all =
     by true later = All-head FitsGeneration g books all
     by false later = later
 
-further_fits : (prefix : Prefix6) (books : List Generation) (r : Reached) (e : Entry) → All FitsGeneration books → FitsState r.state → FitsAsk e.ask → FitsStep (entry_step prefix books r e)
+further_fits : (prefix : Prefix6) (books : List Generation) (r : Reached) (e : Entry) → All FitsGeneration books → FitsState r.state → FitsAsk e.ask → FitsStep (entry_step nat prefix books r e)
 further_fits prefix books r e all fits asks =
     nat_fits prefix r.state (record { seen = unwrap_or (book_of e.mark.used books) r.state.book; now = e.now; place = r.place }) e.ask (book_fits e.mark.used books r.state.book fits.book all) fits asks
 
-good_fits : (prefix : Prefix6) (books : List Generation) (r : Reached) (entries : List Entry) → All FitsGeneration books → FitsState r.state → All (λ (e : Entry). FitsAsk e.ask) entries → AreGoodFrom prefix books r entries
+good_fits : (prefix : Prefix6) (books : List Generation) (r : Reached) (entries : List Entry) → All FitsGeneration books → FitsState r.state → All (λ (e : Entry). FitsAsk e.ask) entries → AreGoodFrom nat prefix books r entries
     → All (λ (e : Entry). FitsAnswer e.answer) entries
 good_fits prefix books r [] all fits asks good = All-nil (λ (e : Entry). FitsAnswer e.answer)
 good_fits prefix books r (e ∷ entries) all fits asks good =
     let step = further_fits prefix books r e all fits (All-head (λ (x : Entry). FitsAsk x.ask) e entries asks) in
     All-cons (λ (x : Entry). FitsAnswer x.answer) e entries (subst FitsAnswer (sym good.0.answer) step.answer)
-    (good_fits prefix books (further prefix books r e) entries all step.after (All-tail (λ (x : Entry). FitsAsk x.ask) e entries asks) good.1)
+    (good_fits prefix books (further nat prefix books r e) entries all step.after (All-tail (λ (x : Entry). FitsAsk x.ask) e entries asks) good.1)
 
 replayed_fits : (prefix : Prefix6) (books : List Generation) (r : Reached) (entries : List Entry) → All FitsGeneration books → FitsState r.state → All (λ (e : Entry). FitsAsk e.ask) entries
-    → FitsState (replay_from prefix books r entries).state
+    → FitsState (replay_from nat prefix books r entries).state
 replayed_fits prefix books r [] all fits asks = fits
 replayed_fits prefix books r (e ∷ entries) all fits asks =
     let step = further_fits prefix books r e all fits (All-head (λ (x : Entry). FitsAsk x.ask) e entries asks) in
-    replayed_fits prefix books (further prefix books r e) entries all step.after (All-tail (λ (x : Entry). FitsAsk x.ask) e entries asks)
+    replayed_fits prefix books (further nat prefix books r e) entries all step.after (All-tail (λ (x : Entry). FitsAsk x.ask) e entries asks)
 
 start_fits : (start : EdgeStart) (books : List Generation) → FitsStart start books → FitsState (first_state start)
 start_fits start books fits = record { book = fits.book; bindings = fits.kept; notes = All-nil FitsNote }
 
-pub answers_fit : (start : EdgeStart) (books : List Generation) (entries : List Entry) → FitsStart start books → All (λ (e : Entry). FitsAsk e.ask) entries → IsGood start books entries → All (λ (e : Entry). FitsAnswer e.answer) entries
+pub answers_fit : (start : EdgeStart) (books : List Generation) (entries : List Entry) → FitsStart start books → All (λ (e : Entry). FitsAsk e.ask) entries → IsGood nat start books entries → All (λ (e : Entry). FitsAnswer e.answer) entries
 answers_fit start books entries fits asks good = good_fits start.prefix books (outset start) entries fits.later (start_fits start books fits) asks good
 
-pub history_fits : (start : EdgeStart) (books : List Generation) (entries : List Entry) → FitsStart start books → All (λ (e : Entry). FitsAsk e.ask) entries → FitsState (replay_from start.prefix books (outset start) entries).state
+pub history_fits : (start : EdgeStart) (books : List Generation) (entries : List Entry) → FitsStart start books → All (λ (e : Entry). FitsAsk e.ask) entries → FitsState (replay_from nat start.prefix books (outset start) entries).state
 history_fits start books entries fits asks = replayed_fits start.prefix books (outset start) entries fits.later (start_fits start books fits) asks

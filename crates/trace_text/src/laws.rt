@@ -203,10 +203,10 @@ pub fn numbers_stay_in_their_fields()
     ensures history { (start : EdgeStart) (books : List Generation) (entries : List Entry)
         → FitsStart start books
         → All (λ (e : Entry). FitsAsk e.ask) entries
-        → IsGood start books entries
+        → IsGood nat start books entries
         → All (λ (e : Entry). FitsAnswer e.answer) entries }
     ensures reached { (start : EdgeStart) (books : List Generation) (entries : List Entry)
-        → FitsStart start books → All (λ (e : Entry). FitsAsk e.ask) entries → FitsState (replay start books entries) }
+        → FitsStart start books → All (λ (e : Entry). FitsAsk e.ask) entries → FitsState (replay nat start books entries) }
 {}
 
 /// Numbers of an ask about a packet of octets fit their fields, on each way on which an edge takes one.
