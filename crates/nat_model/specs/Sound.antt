@@ -7,7 +7,7 @@ use Rattle.nat_model.specs.declared.binding.Binding.{Binding}
 use Rattle.nat_model.specs.Binding.{is_claimable_by}
 use Rattle.nat_model.specs.State.{NatState, holder_at}
 
--- two bindings of one protocol have different outside ports, and different host ends (RFC 4787, section 4.2.2;
+-- two bindings of one protocol have different outside ports, and different host ends (RFC 4787, section 4.2.1;
 -- RFC 6146, section 3.1)
 pub record AreApart (b c : Binding) : Type 0 where
   pub ports : b.proto ≡ c.proto → ¬ (b.port ≡ c.port)
