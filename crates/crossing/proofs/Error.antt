@@ -1,6 +1,6 @@
 -- ICMP errors, there and back.
 use Rattle.std.proofs.Common.{◌≡◌, ◌≢◌, ◌⊎◌, ℕ, ◌+◌, ◌*◌, ◌-◌, ◌/◌, ◌%◌, ◌^◌, ◌<◌, ◌≤◌, Bool, true, false, cond, not, ◌||◌, ◌&&◌, List, length, take, min, Option, Some, None, inl, inr, refl, sym, ap, ◌∙◌, subst, arith}
-use Rattle.std.specs.Prelude.{◌==◌, nat_le, option_and_then}
+use Rattle.std.specs.Prelude.{nat_le, is_some, option_and_then}
 use Rattle.std.specs.Option.{option_map}
 use Rattle.std.proofs.lemmas.List.{length-take}
 use Rattle.octets.specs.declared.address.Addr4.{Addr4}
@@ -13,6 +13,7 @@ use Rattle.ip4_packet.specs.declared.head.Head4.{Head4}
 use Rattle.ip4_packet.specs.Grammar.{payload_of4}
 use Rattle.ip4_packet.specs.Written.{written4}
 use Rattle.ip6_packet.specs.declared.head.Head6.{Head6}
+use Rattle.ip6_packet.specs.declared.head.Frag6.{Frag6}
 use Rattle.ip6_packet.specs.Written.{written6}
 use Rattle.l4_headers.specs.declared.ports.Ports.{Ports}
 use Rattle.l4_headers.specs.Transport.{l4_of}
@@ -20,8 +21,10 @@ use Rattle.icmp_messages.specs.declared.icmp4.Icmp4.{Icmp4}
 use Rattle.icmp_messages.specs.declared.icmp6.Icmp6.{Icmp6}
 use Rattle.icmp_messages.specs.declared.inner4.Inner4.{Inner4}
 use Rattle.icmp_messages.specs.declared.inner6.Inner6.{Inner6}
-use Rattle.icmp_messages.specs.Inner.{IsInner6, IsCarried4, IsCarried6}
+use Rattle.icmp_messages.proofs.InnerLemmas.{one_inner6}
+use Rattle.icmp_messages.specs.Inner.{IsInner4, IsInner6, IsCarried4}
 use Rattle.icmp_messages.specs.Message.{message4, message6}
+use Rattle.xlat46.specs.Fits.{FitsHead}
 use Rattle.xlat46.specs.Head.{is_fragment, upper_protocol}
 use Rattle.xlat64.specs.Head.{protocol_of}
 use Rattle.icmp_xlat.specs.declared.ends.Ends.{Ends}
@@ -32,7 +35,9 @@ use Rattle.icmp_xlat.specs.Table.{table46, table64, row_of, pointers64, pointer_
 use Rattle.icmp_xlat.specs.Mtu.{mtu46}
 use Rattle.icmp_xlat.specs.Icmp46.{rest46, error46, embedded46, with_message46}
 use Rattle.icmp_xlat.specs.Icmp64.{rest64, error64, embedded64, with_message64}
-use Rattle.icmp_xlat.specs.Inner.{inner46, inner64, inner_head64, inner_payload, change46}
+use Rattle.icmp_xlat.specs.Inner.{inner46, inner64, inner_head64, inner_payload}
+use Rattle.icmp_xlat.specs.Moved.{ports_of, moved46, held6, FitsInnerEnds6}
+use Rattle.icmp_xlat.proofs.ReadAgain.{held46, all_embedded6}
 use Rattle.packets.specs.declared.packet4.Content4.{Content4}
 use Rattle.packets.specs.declared.packet4.Content4.TheVariants.{Error as Error4}
 use Rattle.packets.specs.declared.packet6.Content6.{Content6}
@@ -45,13 +50,11 @@ use Rattle.transit.specs.Passage46.{translation46}
 use Rattle.transit.specs.Passage64.{translation64}
 use Rattle.transit.proofs.Room.{length-written4}
 use Rattle.crossing.specs.Named.{IsPayload, IsMessage, IsErrorAfter, rest_after, inner_after, inner_head, inner_room, inner_change, uncut}
-use Rattle.crossing.specs.Transfer.{Transfer, FitsHead, FitsContent, IsTakenAs, IsThere, IsBack, ComesOf, crossing_of, content_with, inner_with}
-use Rattle.crossing.proofs.Embedded.{FitsInner, ReadsInner, reads_inner, one_proto}
+use Rattle.crossing.specs.Transfer.{Transfer, FitsContent, IsTakenAs, IsThere, IsBack, ComesOf, crossing_of, content_with, inner_with}
 use Rattle.crossing.proofs.Heads.{id_twice, df_twice, some_same, frag_of, offset_there, more_there, head_there, head_back, IsLaid, laid_inside, between, named_uncut}
-use Rattle.crossing.proofs.Inner.{inner_there, payload_back, inner_ports, ports_read}
-use Rattle.crossing.proofs.Piece.{length-part}
+use Rattle.crossing.proofs.Inner.{inner_there, payload_back}
 use Rattle.crossing.proofs.Query.{IsRead, is_read, found_by, length-message4, length-message6, upper_58}
-use Rattle.crossing.proofs.Rows.{rest_again, row_again, no_length, pointer_small}
+use Rattle.crossing.proofs.Rows.{rest_again, row_again, pointer_small}
 
 -- ---- the four octets behind the sum
 
@@ -101,22 +104,14 @@ one_error at_relay h m (Error6 n row inner) upper fits no_query has =
     let read = is_read h.src h.dst m n fits has.message.message in
     record { message = n; row = row; inner = inner; is = refl; read = read; found = found_by m n row read has.message.found; embedded = has.embedded }
 
--- it has no length of what it embeds
-no_words : (b : Bool) → (b && false) ≡ false
-no_words true = refl
-no_words false = refl
-
-embedded_all : (m : Icmp6) → (m.rest / 2 ^ 24 ≡ 0) ⊎ ((m.kind == 1 || m.kind == 3) ≡ false) → embedded64 m ≡ m.body
-embedded_all m (inl none) = rw (none, no_words (m.kind == 1 || m.kind == 3)) refl
-embedded_all m (inr other) = rw other refl
-
 -- ---- an error that was taken, on the access network
 
 pub record IsErrorLaid (t : Transfer) (m : Icmp4) (row : Row) (inner : Inner4) (six : List ℕ) : Type 0 where
   pub protocol : t.taken.head.proto ≡ 1
   pub found : row_of table46 m.kind m.code ≡ Some row
   pub no_query : row.rest ≢ Query
-  pub fits : FitsInner inner t.six
+  pub embedded : IsInner4 inner (embedded46 m)
+  pub fits : FitsHead inner.head
   pub answers : inner.head.src ≡ t.taken.head.dst
   pub rest : ℕ
   pub rest_is : rest46 t.mtus inner.head.total m.rest row.rest ≡ Some rest
@@ -141,12 +136,12 @@ error_laid t m row inner octets six e taken there =
     let over = message6 t.six.src t.six.dst m6 in
     let long : length over ≡ 8 + length m6.body = length-message6 t.six.src t.six.dst m6 in
     let short : length m6.body ≤ 1232 = omega (arith, length-take 1232 (inner46 inner t.six)) in
-    let declared : length inner.payload ≤ inner.head.total - inner.head.head_len = omega (arith, ap (λ (xs : List ℕ). length xs) has.embedded.payload, length-part (embedded46 m) inner.head.head_len (inner.head.total - inner.head.head_len)) in
     record {
       protocol = has.message.protocol;
       found = has.message.found;
       no_query = has.error.no_query;
-      fits = record { head = fit; src = taken.six.inner_src; dst = taken.six.inner_dst; stands = has.embedded.stands; declared = declared; least = has.embedded.header.least; first = has.embedded.first; carried = has.embedded.carried };
+      embedded = has.embedded;
+      fits = fit;
       answers = has.answers;
       rest = rest;
       rest_is = told.1;
@@ -161,8 +156,7 @@ error_laid t m row inner octets six e taken there =
 pub record SeesError (t : Transfer) (row : Row) (inner : Inner4) (rest : ℕ) (content : Content6) : Type 0 where
   pub one : IsOneError (error46 row rest inner t.six) content
   pub again : one.row.rest ≡ rest_again row.rest
-  pub inside : ReadsInner inner t.six one.inner
-  pub proto_is : one.inner.proto ≡ inner.proto
+  pub inside : one.inner ≡ held6 (moved46 inner t.six)
 
 no_query_again : (kind again : Rest) → again ≡ rest_again kind → kind ≢ Query → again ≢ Query
 no_query_again Query again is none query = none refl
@@ -170,11 +164,6 @@ no_query_again Zero again is none query = cc
 no_query_again Protocol again is none query = cc
 no_query_again Mtu again is none query = cc
 no_query_again Pointer again is none query = cc
-
-zero_rest : (mtus : Mtus) (total rest found : ℕ) (kind : Rest) → kind ≡ Zero → rest46 mtus total rest kind ≡ Some found → found / 2 ^ 24 ≡ 0
-zero_rest mtus total rest found kind zero is =
-    let same : 0 ≡ found = same_number 0 found (rw zero at is) in
-    omega arith
 
 pub sees_error : (t : Transfer) (m : Icmp4) (row : Row) (inner : Inner4) (octets six : List ℕ) (at_relay : Bool) (q : Packet6) → IsTakenAs t octets → (laid : IsErrorLaid t m row inner six) → IsPacket6 at_relay q six
     → SeesError t row inner laid.rest q.content
@@ -185,17 +174,14 @@ sees_error t m row inner octets six at_relay q taken laid is =
     let one = one_error at_relay (head_there t (length over)) m6 q.content upper (rest_small t.mtus inner.head.total m.rest laid.rest row.rest laid.rest_is)
     (λ s found. no_query_again row.rest s.rest (row_again m.kind m.code row s laid.found found) laid.no_query) (laid_inside t octets over six at_relay q taken laid.laid is) in
     let n = one.message in
-    let empty : (n.rest / 2 ^ 24 ≡ 0) ⊎ ((n.kind == 1 || n.kind == 3) ≡ false) = elim (no_length m.kind m.code row laid.found) [
-      | inl zero ↦ inl (ap (λ (k : ℕ). k / 2 ^ 24) one.read.rest ∙ zero_rest t.mtus inner.head.total m.rest laid.rest row.rest zero laid.rest_is)
-      | inr other ↦ inr (ap (λ (k : ℕ). (k == 1 || k == 3)) one.read.kind ∙ other)
-    ] in
-    let embedded : IsInner6 one.inner (take 1232 (inner46 inner t.six)) = subst (λ (xs : List ℕ). IsInner6 one.inner xs) (embedded_all n empty ∙ one.read.body) one.embedded in
-    let inside = reads_inner inner t.six one.inner laid.fits embedded in
+    let rest : rest46 t.mtus inner.head.total m.rest row.rest ≡ Some n.rest = laid.rest_is ∙ ap (λ (k : ℕ). Some k) (sym one.read.rest) in
+    let all : embedded64 n ≡ take 1232 (inner46 inner t.six) = all_embedded6 t.mtus inner.head.total m.rest m.kind m.code row n laid.found rest one.read.kind ∙ one.read.body in
+    let ends : FitsInnerEnds6 t.six = record { src = taken.six.inner_src; dst = taken.six.inner_dst; ports = taken.six.ports } in
     record {
       one = one;
       again = row_again m.kind m.code row one.row laid.found one.found;
-      inside = inside;
-      proto_is = one_proto inner.proto one.inner.proto inner.head.proto inner.payload one.inner.payload laid.fits.carried (subst (λ (g : Head6). IsCarried6 one.inner.proto g.upper one.inner.payload) inside.head one.embedded.carried);
+      inside = one_inner6 one.inner (held6 (moved46 inner t.six)) (take 1232 (inner46 inner t.six)) (subst (λ (xs : List ℕ). IsInner6 one.inner xs) all one.embedded)
+          (held46 inner (embedded46 m) t.six laid.embedded laid.fits ends);
     }
 
 -- ---- the embedded packet, back
@@ -211,34 +197,35 @@ upper_back Tcp number payload is = rw is refl
 upper_back Udp number payload is = rw is refl
 upper_back Icmp number payload is = rw is.0 refl
 
-inner_head_back : (inner : Inner4) (six : Ends Addr6) (four : Ends Addr4) (room : ℕ) (ports : Ports) → FitsInner inner six → inner_head64 (inner_there inner six room ports) four ≡ inner_head (inner_with four inner).head
-inner_head_back inner six four room ports fit =
+inner_head_back : (inner : Inner4) (octets : List ℕ) (six : Ends Addr6) (four : Ends Addr4) (room : ℕ) (ports : Ports) → IsInner4 inner octets → FitsHead inner.head → inner_head64 (inner_there inner six room ports) four ≡ inner_head (inner_with four inner).head
+inner_head_back inner octets six four room ports is fit =
     let h = inner.head in
-    let total : min (20 + (h.total - h.head_len)) 65535 ≡ 20 + (h.total - h.head_len) = omega (arith, fit.head.total, fit.least) in
-    head_is _ _ _ _ _ _ _ _ _ _ _ _ h.tos h.ttl four.inner_src four.inner_dst total (upper_back inner.proto h.proto inner.payload fit.carried)
-    (id_twice (is_fragment h) (frag_of h) 0 fit.head.id)
+    let total : min (20 + (h.total - h.head_len)) 65535 ≡ 20 + (h.total - h.head_len) = omega (arith, fit.total, is.header.least) in
+    head_is _ _ _ _ _ _ _ _ _ _ _ _ h.tos h.ttl four.inner_src four.inner_dst total (upper_back inner.proto h.proto inner.payload is.carried)
+    (id_twice (is_fragment h) (frag_of h) 0 fit.id)
     (df_twice (is_fragment h) (frag_of h) (min (20 + (h.total - h.head_len)) 65535) ∙ ap (λ (n : ℕ). not (is_fragment h) && not (nat_le n 1260)) total)
     (more_there h) (offset_there h)
 
 -- the packet that was read there
-same_inner : (inner : Inner4) (six : Ends Addr6) (n : Inner6) → ReadsInner inner six n → n.proto ≡ inner.proto → n ≡ inner_there inner six (inner_room inner.head) n.ports
-same_inner inner six n is proto =
-    let made : Inner6 = record { head = n.head; payload = n.payload; ports = n.ports; proto = n.proto } in
-    let first : n ≡ made = refl in
-    first ∙ rw (is.head, is.payload, proto) refl
+room_is : (b : Bool) (frag : Frag6) → ◌≡◌ {A = ℕ} (1232 - cond (is_some (cond b (Some frag) None)) 48 40) (1280 - (40 + 8 + cond b 48 40))
+room_is true frag = refl
+room_is false frag = refl
+
+same_inner : (inner : Inner4) (six : Ends Addr6) (n : Inner6) → n ≡ held6 (moved46 inner six) → n ≡ inner_there inner six (inner_room inner.head) (ports_of inner.proto six.ports)
+same_inner inner six n is = is ∙ ap (λ (room : ℕ). inner_there inner six room (ports_of inner.proto six.ports)) (room_is (is_fragment inner.head) (frag_of inner.head))
 
 room_long : (b : Bool) → 20 ≤ 1280 - (40 + 8 + cond b 48 40)
 room_long true = omega arith
 room_long false = omega arith
 
-inner_back : (inner : Inner4) (six : Ends Addr6) (four : Ends Addr4) (n : Inner6) → FitsInner inner six → ArePorts six.ports → ReadsInner inner six n → n.proto ≡ inner.proto → inner64 n four ≡ inner_after inner (inner_with four inner)
-inner_back inner six four n fit are is proto =
+inner_back : (inner : Inner4) (octets : List ℕ) (six : Ends Addr6) (four : Ends Addr4) (n : Inner6) → IsInner4 inner octets → FitsHead inner.head → ArePorts six.ports → n ≡ held6 (moved46 inner six) → inner64 n four ≡ inner_after inner (inner_with four inner)
+inner_back inner octets six four n embedded fit are is =
     let room = inner_room inner.head in
-    let there = inner_there inner six room n.ports in
-    let same = same_inner inner six n is proto in
-    ap (λ (x : Inner6). inner64 x four) same
-    ∙ ap (λ (xs : List ℕ). written4 (inner_head64 there four) xs) (payload_back inner six four room n.ports (room_long (is_fragment inner.head)) fit.stands are fit.carried)
-    ∙ ap (λ (h : Head4). written4 h (take room (inner_payload inner.proto inner.payload (inner_change inner (inner_with four inner) inner.proto)))) (inner_head_back inner six four room n.ports fit)
+    let ports = ports_of inner.proto six.ports in
+    let there = inner_there inner six room ports in
+    ap (λ (x : Inner6). inner64 x four) (same_inner inner six n is)
+    ∙ ap (λ (xs : List ℕ). written4 (inner_head64 there four) xs) (payload_back inner six four room ports (room_long (is_fragment inner.head)) embedded.stands are embedded.carried)
+    ∙ ap (λ (h : Head4). written4 h (take room (inner_payload inner.proto inner.payload (inner_change inner (inner_with four inner) inner.proto)))) (inner_head_back inner octets six four room ports embedded fit)
 
 -- ---- the error, back
 
@@ -266,7 +253,7 @@ error_crosses t m row inner octets six four at_relay q e taken there back =
     let rest : ℕ = told.0 in
     let new : Icmp4 = error64 one.row rest one.inner t.four in
     let whole = message4 new in
-    let body : new.body ≡ inner_after inner (inner_with t.four inner) = inner_back inner t.six t.four one.inner laid.fits taken.six.ports sees.inside sees.proto_is in
+    let body : new.body ≡ inner_after inner (inner_with t.four inner) = inner_back inner (embedded46 m) t.six t.four one.inner laid.embedded laid.fits taken.six.ports sees.inside in
     let long : length whole ≡ 8 + length new.body = length-message4 new in
     let size : length new.body ≤ 1212 = short inner (inner_with t.four inner) new.body body in
     let after : rest_after t.mtus inner.head.total m.rest row.rest ≡ Some rest = rest_told t.mtus inner.head.total m.rest laid.rest rest row.rest one.row.rest sees.again laid.rest_is (subst (λ (k : ℕ). rest64 t.mtus k one.row.rest ≡ Some rest) one.read.rest told.1) in
@@ -298,7 +285,7 @@ pub record ReadsError (inner : Inner4) (six : Ends Addr6) (q : Content6) : Type 
   pub about : Inner6
   pub is : q ≡ Error6 message row about
   pub proto_is : about.proto ≡ inner.proto
-  pub ports_are : about.ports ≡ inner_ports inner.proto six.ports
+  pub ports_are : about.ports ≡ ports_of inner.proto six.ports
   pub far : about.head.dst ≡ six.inner_dst
 
 pub error_flow : (t : Transfer) (m : Icmp4) (row : Row) (inner : Inner4) (octets six : List ℕ) (at_relay : Bool) (q : Packet6) → t.taken.content ≡ Error4 m row inner
@@ -307,27 +294,12 @@ error_flow t m row inner octets six at_relay q e taken there is =
     let laid = error_laid t m row inner octets six e taken there in
     let sees = sees_error t m row inner octets six at_relay q taken laid is in
     let one = sees.one in
-    let n = one.inner in
     record {
       message = one.message;
       row = one.row;
-      about = n;
+      about = one.inner;
       is = one.is;
-      proto_is = sees.proto_is;
-      ports_are = one.embedded.ports
-          ∙ ap (λ (p : Proto). (l4_of p n.payload).ports) sees.proto_is
-          ∙ ap (λ (xs : List ℕ). (l4_of inner.proto xs).ports) sees.inside.payload
-          ∙ ports_read inner.proto inner.payload (inner_room inner.head) (change46 inner t.six inner.proto) (room_long (is_fragment inner.head)) laid.fits.stands (ports_given inner t.six inner.proto taken.six.ports)
-          ∙ ap (λ (ports : Ports). inner_ports inner.proto ports) (given inner t.six inner.proto);
-      far = ap (λ (h : Head6). h.dst) sees.inside.head;
+      proto_is = ap (λ (n : Inner6). n.proto) sees.inside;
+      ports_are = ap (λ (n : Inner6). n.ports) sees.inside;
+      far = ap (λ (n : Inner6). n.head.dst) sees.inside;
     }
-  where
-    given : (i : Inner4) (ends : Ends Addr6) (p : Proto) → (change46 i ends p).ports ≡ ends.ports
-    given i ends Tcp = refl
-    given i ends Udp = refl
-    given i ends Icmp = refl
-
-    ports_given : (i : Inner4) (ends : Ends Addr6) (p : Proto) → ArePorts ends.ports → ArePorts (change46 i ends p).ports
-    ports_given i ends Tcp are = are
-    ports_given i ends Udp are = are
-    ports_given i ends Icmp are = are

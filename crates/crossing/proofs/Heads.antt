@@ -15,6 +15,7 @@ use Rattle.ip6_packet.specs.Grammar.{payload_of6}
 use Rattle.ip6_packet.specs.Written.{written6, IsUpper, IsPlaced, FitsFrag, IsPacket6 as IsForm6}
 use Rattle.ip6_packet.proofs.EmbeddedLemmas.{same_headers6, headers_of6}
 use Rattle.ip6_packet.proofs.WrittenLemmas.{written_is6}
+use Rattle.xlat46.specs.Fits.{FitsHead}
 use Rattle.xlat46.specs.Head.{is_fragment, fragment_header, upper_protocol, translated as translated46}
 use Rattle.xlat64.specs.Head.{protocol_of, identification as identification64, dont_fragment as dont_fragment64, translated as translated64}
 use Rattle.icmp_xlat.specs.declared.ends.Ends.{Ends}
@@ -25,7 +26,7 @@ use Rattle.packets.specs.Packet6.{IsPacket6, IsContent6}
 use Rattle.transit.specs.Passage64.{translation64}
 use Rattle.transit.proofs.Form.{low_offset}
 use Rattle.crossing.specs.Named.{Named, IsPayload, uncut}
-use Rattle.crossing.specs.Transfer.{Transfer, FitsHead, FitsEnds, IsTakenAs, IsBack, crossing_of, content_with}
+use Rattle.crossing.specs.Transfer.{Transfer, FitsEnds, IsTakenAs, IsBack, crossing_of, content_with}
 
 -- a packet that is no fragment
 pub whole_parts : (mf : Bool) (n : ℕ) → (mf || not (eqb n 0)) ≡ false → (mf ≡ false) × (n ≡ 0)

@@ -27,6 +27,7 @@ use Rattle.xlat64.specs.Whole.{addresses_after as addresses_of4}
 use Rattle.icmp_xlat.specs.declared.inner.Change.{Change}
 use Rattle.icmp_xlat.specs.declared.ends.Ends.{Ends}
 use Rattle.icmp_xlat.specs.Inner.{inner_tcp, inner_udp, inner_echo, echo_sum, inner_payload, change46, change64, echo46, echo64, inner_head46}
+use Rattle.icmp_xlat.proofs.ReadAgain.{tcp_length, two_ports}
 use Rattle.crossing.specs.Named.{inner_change}
 use Rattle.crossing.specs.Transfer.{inner_with}
 use Rattle.crossing.proofs.Sums.{adjusted-twice, written-twice, adjusted_fits, udp_fits, udp_some}
@@ -47,23 +48,12 @@ tcp_read payload ports sum stands are fits =
       word-with_word 16 sum x2 (omega arith) fits,
     )
 
-pub tcp_length : (payload : List ℕ) (ports : Ports) (sum : ℕ) → 18 ≤ length payload → length (with_l4 Tcp payload ports sum) ≡ length payload
-tcp_length payload ports sum stands =
-    let x0 = with_word 0 ports.src payload in
-    let x2 = with_word 2 ports.dst x0 in
-    let l0 = length-with_word 0 ports.src payload (omega arith) in
-    let l2 = length-with_word 2 ports.dst x0 (omega arith) in
-    length-with_word 16 sum x2 (omega arith) ∙ l2 ∙ l0
-
 -- the sum by what was read
 sum_by : (proto : Proto) (xs : List ℕ) (ports : Ports) (sum old new : ℕ) (given : Ports) → (l4_of proto xs).ports ≡ ports → (l4_of proto xs).sum ≡ sum
     → readdressed_sum proto (l4_of proto xs) old new given ≡ readdressed_sum proto (record { ports = ports; sum = sum; flags = 0 }) old new given
 sum_by proto xs ports sum old new given are is =
     ap (λ (p : Ports). readdressed_sum proto (record { ports = p; sum = (l4_of proto xs).sum; flags = 0 }) old new given) are
     ∙ ap (λ (s : ℕ). readdressed_sum proto (record { ports = ports; sum = s; flags = 0 }) old new given) is
-
-pub two_ports : (src dst : ℕ) (ports : Ports) → src ≡ ports.src → dst ≡ ports.dst → record { src = src; dst = dst } ≡ ports
-two_ports src dst ports a b = ap (λ (n : ℕ). record { src = n; dst = dst }) a ∙ ap (λ (n : ℕ). record { src = ports.src; dst = n }) b
 
 tcp_long : (payload : List ℕ) (room before mid after : ℕ) (one other : Ports) → 18 ≤ length payload → 20 ≤ room → ArePorts one
     → with_l4 Tcp (part (with_l4 Tcp payload one (readdressed_sum Tcp (l4_of Tcp payload) before mid one)) 0 room) other (readdressed_sum Tcp (l4_of Tcp (part (with_l4 Tcp payload one (readdressed_sum Tcp (l4_of Tcp payload) before mid one)) 0 room)) mid after other)
@@ -248,45 +238,3 @@ payload_back_by Icmp inner six four room ports fits stands are is =
 
 pub payload_back : (inner : Inner4) (six : Ends Addr6) (four : Ends Addr4) (room : ℕ) (ports : Ports) → 20 ≤ room → 8 ≤ length inner.payload → ArePorts six.ports → IsCarried4 inner.proto inner.head.proto inner.payload → PayloadBack inner six four room ports
 payload_back inner six four room ports fits stands are is = payload_back_by inner.proto inner six four room ports fits stands are is
-
--- ---- the ports that are read of it
-
--- an echo has its identifier as both
-abbrev pub inner_ports : Proto → Ports → Ports
-inner_ports Icmp ports = record { src = ports.src; dst = ports.src }
-inner_ports _ ports = ports
-
-same_ports : (n port : ℕ) → n ≡ port → ◌≡◌ {A = Ports} (record { src = n; dst = n }) (record { src = port; dst = port })
-same_ports n port is = rw is refl
-
-echo_port : (payload : List ℕ) (room : ℕ) (change : Change) → change.ports.src < 65536 → word (take (six_more room) (inner_echo payload change)) 4 ≡ change.ports.src
-echo_port payload room change small = (echo_word (take room (drop 6 payload)) change.kind (echo_sum payload change) change.ports.src (echo_sum_fits payload change) small).2
-
-pub ports_read : (proto : Proto) (payload : List ℕ) (room : ℕ) (change : Change) → 20 ≤ room → 8 ≤ length payload → ArePorts change.ports → (l4_of proto (take room (inner_payload proto payload change))).ports ≡ inner_ports proto change.ports
-ports_read Tcp payload room change fits stands are = elim (leb_tells 18 (length payload)) [
-  | inl long ↦
-      let s1 = readdressed_sum Tcp (l4_of Tcp payload) change.before change.after change.ports in
-      let small : s1 < 65536 = adjusted_fits (l4_of Tcp payload).sum (change.before + port_words (l4_of Tcp payload).ports) (change.after + port_words change.ports) in
-      let there = with_l4 Tcp payload change.ports s1 in
-      let read = tcp_read payload change.ports s1 long.1 are small in
-      rw long.0 (two_ports (word (part there 0 room) 0) (word (part there 0 room) 2) change.ports (word_first there room 0 (omega arith) ∙ read.0) (word_first there room 2 (omega arith) ∙ read.1))
-  | inr short ↦
-      let x0 = with_word 0 change.ports.src payload in
-      let l0 = length-with_word 0 change.ports.src payload (omega arith) in
-      let there = with_word 2 change.ports.dst x0 in
-      let src : word there 0 ≡ change.ports.src = word-with_word_other 2 change.ports.dst x0 0 (omega arith) (inl (omega arith)) ∙ word-with_word 0 change.ports.src payload (omega arith) are.0 in
-      let dst : word there 2 ≡ change.ports.dst = word-with_word 2 change.ports.dst x0 (omega arith) are.1 in
-      rw short.0 (two_ports (word (part there 0 room) 0) (word (part there 0 room) 2) change.ports (word_first there room 0 (omega arith) ∙ src) (word_first there room 2 (omega arith) ∙ dst))
-]
-ports_read Udp payload room change fits stands are =
-    let l4 = l4_of Udp payload in
-    let s1 = given_sum (word payload 6) (readdressed_sum Udp l4 change.before change.after change.ports) in
-    let there = with_l4 Udp payload change.ports s1 in
-    let low : s1 < 65536 = given_low (word payload 6) (readdressed_sum Udp l4 change.before change.after change.ports) (udp_fits (adjusted l4.sum (change.before + port_words l4.ports) (change.after + port_words change.ports)) (adjusted_fits l4.sum (change.before + port_words l4.ports) (change.after + port_words change.ports))) in
-    ap (λ (l : L4). l.ports) (l4_of-front Udp there room (λ e. cc) (omega arith) ∙ l4_of-with_udp payload change.ports s1 stands are.0 are.1 low)
-  where
-    given_low : (w r : ℕ) → r < 65536 → given_sum w r < 65536
-    given_low w r below = elim (cases_eq w 0) [ inl none ↦ rw none (omega arith) | inr some ↦ rw (ne_eqb w 0 some) below ]
-ports_read Icmp payload room change fits stands are =
-    subst (λ (n : ℕ). (l4_of Icmp (take n (inner_payload Icmp payload change))).ports ≡ inner_ports Icmp change.ports) (sym (six_of room fits))
-    (same_ports (word (take (six_more (room - 6)) (inner_echo payload change)) 4) change.ports.src (echo_port payload (room - 6) change are.0))

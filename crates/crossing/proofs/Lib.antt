@@ -13,7 +13,5 @@ pub mod Together
 pub mod Uncut
 pub mod Over
 pub mod Inner
-pub mod Longer
-pub mod Embedded
 pub mod Error
 pub mod Trials

@@ -6,25 +6,7 @@ use Rattle.icmp_xlat.specs.declared.table.PointerRow.{PointerRow}
 use Rattle.icmp_xlat.specs.declared.table.Rest.{Rest}
 use Rattle.icmp_xlat.specs.declared.table.Rest.TheVariants.{Query, Zero, Protocol, Mtu, Pointer}
 use Rattle.icmp_xlat.specs.Table.{row, row_of, table46, table64, pointers46, pointer_of}
-
--- each row is so
-abbrev pub AllRows : (Row → Type 0) → List Row → Type 0
-AllRows P [] = Unit {0}
-AllRows P (r ∷ rows) = P r × AllRows P rows
-
-same_row : (r s : Row) → ◌≡◌ {A = Option Row} (Some r) (Some s) → r ≡ s
-same_row r s e = cc
-
-no_row : (r : Row) → ◌≡◌ {A = Option Row} None (Some r) → ⊥
-no_row r e = cc
-
-pub found_row : (P : Row → Type 0) (rows : List Row) (kind code : ℕ) (found : Row) → AllRows P rows → row_of rows kind code ≡ Some found → P found
-found_row P [] kind code found all is = absurd (no_row found is)
-found_row P (r ∷ rows) kind code found all is = by (r.kind == kind && r.code == code) (found_row P rows kind code found all.1) is
-  where
-    by : (b : Bool) → (row_of rows kind code ≡ Some found → P found) → cond b (Some r) (row_of rows kind code) ≡ Some found → P found
-    by true behind e = subst P (same_row r found e) all.0
-    by false behind e = behind e
+use Rattle.icmp_xlat.proofs.Rows.{AllRows, same_row, found_row}
 
 -- the rows of queries, to IPv6 and back
 abbrev pub IsQueryRow : Row → Type 0
@@ -70,19 +52,6 @@ again = (
 
 pub row_again : (kind code : ℕ) (r s : Row) → row_of table46 kind code ≡ Some r → row_of table64 r.to_kind r.to_code ≡ Some s → s.rest ≡ rest_again r.rest
 row_again kind code r s found back = found_row IsAgain table46 kind code r again found s back
-
--- only what says nothing in the four octets becomes a message whose embedded packet may have a length
-abbrev pub HasNoLength : Row → Type 0
-HasNoLength r = (r.rest ≡ Zero) ⊎ ((r.to_kind == 1 || r.to_kind == 3) ≡ false)
-
-lengths : AllRows HasNoLength table46
-lengths = (
-  inr refl,
-  (inr refl, (inl refl, (inl refl, (inl refl, (inl refl, (inl refl, (inl refl, (inl refl, (inl refl, (inr refl, (inl refl, (inr refl, (inl refl, (inl refl, (inl refl, (inl refl, (inl refl, (inl refl, (inr refl, (inr refl, tt)))))))))))))))))))),
-)
-
-pub no_length : (kind code : ℕ) (r : Row) → row_of table46 kind code ≡ Some r → HasNoLength r
-no_length kind code r found = found_row HasNoLength table46 kind code r lengths found
 
 -- a pointer is a small number
 abbrev AllPointers : List PointerRow → Type 0

@@ -1,16 +1,15 @@
 -- A packet that one node translates to IPv6 and a second one translates back, between the ends that each of them gives it,
 -- and in what it then may differ.
-use Rattle.std.specs.Prelude.{◌≡◌, ℕ, ◌*◌, ◌%◌, ◌^◌, ◌<◌, Bool, false, true, List, slice_get, Some, None}
+use Rattle.std.specs.Prelude.{◌≡◌, ℕ, ◌*◌, ◌%◌, ◌^◌, ◌<◌, Bool, false, List, slice_get, Some, None}
 use Rattle.octets.specs.declared.address.Addr4.{Addr4}
 use Rattle.octets.specs.declared.address.Addr6.{Addr6}
 use Rattle.octets.specs.declared.mtus.Mtus.{Mtus}
 use Rattle.octets.specs.declared.parcel.Parcel.{Parcel}
-use Rattle.ip4_packet.specs.declared.head.Head4.{Head4}
 use Rattle.ip4_packet.specs.Grammar.{payload_of4}
 use Rattle.ip6_packet.specs.Grammar.{payload_of6}
 use Rattle.l4_headers.specs.declared.ports.Ports.{Ports}
 use Rattle.icmp_messages.specs.declared.inner4.Inner4.{Inner4}
-use Rattle.xlat46.specs.Head.{is_fragment}
+use Rattle.xlat46.specs.Fits.{FitsHead}
 use Rattle.xlat46.specs.Whole.{ArePorts}
 use Rattle.icmp_xlat.specs.declared.ends.Ends.{Ends}
 use Rattle.packets.specs.declared.packet4.Content4.{Content4}
@@ -49,12 +48,7 @@ content_with ends (Error m row inner) = Error m row (inner_with ends inner)
 abbrev pub packet_with : Ends Addr4 → Packet4 → Packet4
 packet_with ends p = record { head = record p.head { src = ends.src; dst = ends.dst }; content = content_with ends p.content }
 
--- Numbers of a header, an address and ports that fit their fields. The identification is looked at in a fragment alone.
-pub record FitsHead (h : Head4) : Type 0 where
-  pub tos : h.tos < 256
-  pub total : h.total < 65536
-  pub id : is_fragment h ≡ true → h.id < 65536
-
+-- addresses and ports that fit their fields
 pub record FitsEnds (ends : Ends Addr6) : Type 0 where
   pub src : ends.src.0 < 2 ^ 128
   pub dst : ends.dst.0 < 2 ^ 128

@@ -20,11 +20,13 @@ use Rattle.icmp_messages.specs.declared.inner4.Inner4.{Inner4}
 use Rattle.icmp_messages.specs.declared.inner6.Inner6.{Inner6}
 use Rattle.icmp_messages.specs.Inner.{IsCarried4, IsCarried6}
 use Rattle.xlat46.specs.Head.{upper_protocol}
+use Rattle.xlat46.specs.Whole.{ArePorts}
 use Rattle.xlat64.specs.Head.{protocol_of, total_of}
 use Rattle.icmp_xlat.specs.declared.ends.Ends.{Ends}
 use Rattle.icmp_xlat.specs.declared.inner.Change.{Change}
 use Rattle.icmp_xlat.specs.Inner.{inner_tcp, inner_udp, inner_echo, echo_sum, inner_payload, echo46, echo64, change46, change64, Stands4, Stands6}
-use Rattle.icmp_xlat.specs.Sums.{moved46, moved64, outside4, outside6, IsRightIn4, IsRightIn6, HasSum, ArePorts, IsZeroEcho}
+use Rattle.icmp_xlat.specs.Moved.{moved46, moved64}
+use Rattle.icmp_xlat.specs.Sums.{outside4, outside6, IsRightIn4, IsRightIn6, HasSum, IsZeroEcho}
 
 -- the words of a payload with other ports and another sum, where the sum stands
 words-ports : (at : ℕ) (ports : Ports) (sum : ℕ) (xs : List ℕ) → 4 ≤ at → at % 2 ≡ 0 → at + 2 ≤ length xs → ports.src < 65536 → ports.dst < 65536 → sum < 65536

@@ -2,7 +2,7 @@
 use Rattle.std.specs.Prelude.{ℕ, ◌+◌, ◌-◌, min, max, ◌==◌, nat_lt, if◌then◌else◌, List, [], ◌∷◌}
 use Rattle.octets.specs.declared.mtus.Mtus.{Mtus}
 
--- the plateaus (RFC 1191, section 7.1), from the greatest down
+-- the plateaus (RFC 1191, section 7, table 7-1), from the greatest down
 abbrev pub plateaus : List ℕ
 plateaus = 65535 ∷ 32000 ∷ 17914 ∷ 8166 ∷ 4352 ∷ 2002 ∷ 1492 ∷ []
 

@@ -1,40 +1,16 @@
 -- The transport sum of the packet that an ICMP error embeds, before and after it is translated. It covers the pseudo header
 -- with the declared length, and the whole payload, of which the error may hold the beginning alone.
-use Rattle.std.specs.Prelude.{◌≡◌, ◌≢◌, ℕ, ◌+◌, ◌-◌, ◌<◌, ◌≤◌, List, length, drop}
+use Rattle.std.specs.Prelude.{◌≡◌, ◌≢◌, ℕ, ◌+◌, ◌-◌, ◌≤◌, List, length, drop}
 use Rattle.octets.specs.Field.{octet, word}
 use Rattle.octets.specs.declared.address.Addr4.{Addr4}
-use Rattle.octets.specs.declared.address.Addr6.{Addr6}
 use Rattle.octets.specs.declared.proto.Proto.{Proto}
 use Rattle.octets.specs.declared.proto.Proto.TheVariants.{Tcp, Udp, Icmp}
 use Rattle.inet_sum.specs.Sum.{words, folded}
-use Rattle.l4_headers.specs.declared.ports.Ports.{Ports}
 use Rattle.l4_headers.specs.PseudoHeader.{pseudo_header4, pseudo_header6}
 use Rattle.icmp_messages.specs.declared.inner4.Inner4.{Inner4}
 use Rattle.icmp_messages.specs.declared.inner6.Inner6.{Inner6}
 use Rattle.icmp_xlat.specs.declared.ends.Ends.{Ends}
-use Rattle.icmp_xlat.specs.Inner.{inner_payload, change46, change64, echo64, inner_head46, inner_head64}
-
--- the embedded packet with other ends: what its header and its payload become; both ports of an echo are its identifier
-abbrev pub ports_of : Proto → Ports → Ports
-ports_of Tcp ports = ports
-ports_of Udp ports = ports
-ports_of Icmp ports = record { src = ports.src; dst = ports.src }
-
-abbrev pub moved46 : Inner4 → Ends Addr6 → Inner6
-moved46 inner ends = record {
-  head = inner_head46 inner ends;
-  payload = inner_payload inner.proto inner.payload (change46 inner ends inner.proto);
-  ports = ports_of inner.proto ends.ports;
-  proto = inner.proto;
-}
-
-abbrev pub moved64 : Inner6 → Ends Addr4 → Inner4
-moved64 inner ends = record {
-  head = inner_head64 inner ends;
-  payload = inner_payload inner.proto inner.payload (change64 inner ends inner.proto);
-  ports = ports_of inner.proto ends.ports;
-  proto = inner.proto;
-}
+use Rattle.icmp_xlat.specs.Inner.{echo64}
 
 -- the words outside the payload: the pseudo header, but for an echo of ICMPv4, whose sum covers none (RFC 792)
 abbrev pub outside4 : Inner4 → Proto → ℕ
@@ -57,10 +33,6 @@ abbrev pub HasSum : Proto → List ℕ → Type 0
 HasSum Tcp payload = 18 ≤ length payload
 HasSum Udp payload = word payload 6 ≢ 0
 HasSum Icmp payload = 8 ≤ length payload
-
--- ports are numbers of 16 bits
-abbrev pub ArePorts : Ports → Type 0
-ArePorts ports = (ports.src < 65536) × (ports.dst < 65536)
 
 -- All that the sum of an echo of ICMPv4 covers is 0: it is a reply, its identifier is 0, and so is what follows.
 abbrev pub IsZeroEcho : Inner6 → Ends Addr4 → ℕ → Type 0

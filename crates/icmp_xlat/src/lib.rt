@@ -14,8 +14,8 @@ mod to_icmp6;
 pub use ends::Ends;
 pub use equal::equal_values_are_the_same;
 pub use laws::{
-    a_right_embedded_sum_stays_right_when_translated, a_translated_icmpv4_sum_is_right,
-    a_translated_icmpv6_sum_is_right,
+    a_right_embedded_sum_stays_right_when_translated, a_translated_embedded_packet_is_read_again,
+    a_translated_icmpv4_sum_is_right, a_translated_icmpv6_sum_is_right,
 };
 pub use table::{Rest, Row};
 pub use to_icmp4::{answer64, embedded64, icmp64, translation64};

@@ -4,7 +4,7 @@ ghost use Rattle.icmp_xlat.specs.Mtu.{plateaus, plateau_below, mtu46, mtu64};
 
 use octets::Mtus;
 
-/// The plateaus (RFC 1191, section 7.1), from the greatest down.
+/// The plateaus (RFC 1191, section 7, table 7-1), from the greatest down.
 const PLATEAUS: [u16; 7] = [65535, 32000, 17914, 8166, 4352, 2002, 1492];
 
 /// The least MTU of an IPv6 link (RFC 8200, section 5).

@@ -9,6 +9,7 @@ use Rattle.octets.specs.Bits.{bit_of}
 use Rattle.octets.specs.Fragment.{IsWrongFragment}
 use Rattle.ip4_packet.specs.Written.{fragment_field, header_with, header4, written4, IsInRange}
 use Rattle.ip4_packet.specs.Grammar.{HasFields4, Is4}
+use Rattle.ip4_packet.specs.Embedded.{HasHeader4}
 use Rattle.ip4_packet.specs.Causes.{IsNotIp4, IsTruncated4, IsBadHeader4, IsNoDestination4, HasNoHeaderCause4, IsSound4}
 use Rattle.std.proofs.lemmas.List.{take_all}
 use Rattle.ip4_packet.proofs.OptionLemmas.{ends}
@@ -73,6 +74,15 @@ written_fields h payload fits bare low = record {
   proto = refl;
   src = omega (arith, fits.src);
   dst = omega (arith, fits.dst);
+}
+
+-- the header that was written, also where other than the declared octets stand behind it
+pub written_header4 : (h : Head4) (payload : List ℕ) → IsInRange h → h.head_len ≡ 20 → h.routed ≡ false → h.offset < 8192 → HasHeader4 h (written4 h payload)
+written_header4 h payload fits bare unrouted low = record {
+  fields = written_fields h payload fits bare low;
+  least = omega arith;
+  stands = omega arith;
+  unrouted = unrouted;
 }
 
 -- the written packet holds these fields and this payload, without a cause

@@ -8,7 +8,8 @@ use Rattle.ip6_packet.specs.declared.head.Frag6.{Frag6}
 use Rattle.octets.specs.Bits.{bit_of}
 use Rattle.ip6_packet.specs.Written.{fragment_header, fragment_part, next_header, fixed_header, written6, IsUpper, IsPlaced, IsInRange, FitsFrag, IsPacket6}
 use Rattle.ip6_packet.specs.Chain.{is_sized, frag_of, chain_in}
-use Rattle.ip6_packet.specs.Grammar.{payload_len, HasFields6, Is6}
+use Rattle.ip6_packet.specs.Grammar.{payload_len, payload_of6, HasFields6, Is6}
+use Rattle.ip6_packet.specs.Embedded.{HasHeaders6}
 use Rattle.ip6_packet.specs.Causes.{IsNotIp6, IsTruncated6, IsBadHeader6, IsWrongFrag6, IsNoDestination6, HasNoHeaderCause6, IsSound6}
 use Rattle.ip6_packet.proofs.ChainLemmas.{tail}
 use Rattle.octets.proofs.Parts.{number_back}
@@ -86,32 +87,52 @@ room : (upper start len : ℕ) (frag : Option Frag6) → IsPlaced start len frag
 room upper start len None placed fits = record { start_is = sym placed; fits = omega arith }
 room upper start len (Some frag) placed fits = record { start_is = sym placed.0; fits = omega (arith, placed.1) }
 
--- the written packet holds these fields and this payload
-pub written_is6 : (h : Head6) (payload octets : List ℕ) → IsPacket6 h payload octets → Is6 h payload octets
-written_is6 h payload octets form = rw form.written is
+-- the headers that were written, also where fewer octets stand behind them than they declare
+pub written_headers6 : (h : Head6) (payload : List ℕ) → length payload ≤ h.length → h.left ≡ None → IsUpper h.upper → IsPlaced h.start h.length h.frag → IsInRange h → FitsFrag h.frag
+    → HasHeaders6 h (written6 h payload)
+written_headers6 h payload most unrouted upper placed in_range frag_in_range = record {
+  fields = written_fields h behind in_range;
+  chain = rw (len_is, take_all (h.length + length (fragment_part h.upper h.frag)) behind (omega (arith, behind_is, most)), unrouted) (chain_back h.upper h.start h.length h.frag payload upper placed frag_in_range);
+  ends = rw len_is (omega (arith, the_room.start_is));
+  fixed = omega arith;
+  stands = omega (arith, behind_is, the_room.start_is);
+}
   where
     behind : List ℕ
     behind = fragment_part h.upper h.frag ++ payload
 
     the_room : Room h.upper h.start h.length h.frag
-    the_room = room h.upper h.start h.length h.frag form.placed form.in_range.length_fits
+    the_room = room h.upper h.start h.length h.frag placed in_range.length_fits
 
     len_is : payload_len (fixed_header h ++ behind) ≡ h.length + length (fragment_part h.upper h.frag)
     len_is = number_back 2 (h.length + length (fragment_part h.upper h.frag)) (next_header h.upper h.frag ∷ h.hop ∷ in_sixteen h.src.0 ++ (in_sixteen h.dst.0 ++ behind)) (omega (arith, the_room.fits))
 
-    behind_is : length behind ≡ h.length + length (fragment_part h.upper h.frag)
-    behind_is = omega (arith, form.exact, length-append (fragment_part h.upper h.frag) payload)
+    behind_is : length behind ≡ length (fragment_part h.upper h.frag) + length payload
+    behind_is = length-append (fragment_part h.upper h.frag) payload
 
-    head_is : length (fixed_header h ++ fragment_part h.upper h.frag) ≡ h.start
-    head_is = omega (arith, the_room.start_is)
+-- behind them stands the payload, as far as it is declared
+pub written_payload6 : (h : Head6) (payload : List ℕ) → IsPlaced h.start h.length h.frag → h.length < 65536 → payload_of6 h (written6 h payload) ≡ take h.length payload
+written_payload6 h payload placed fits =
+    let the_room = room h.upper h.start h.length h.frag placed fits in
+    ap (take h.length) (drop_at (fixed_header h ++ fragment_part h.upper h.frag) payload h.start (omega (arith, the_room.start_is)))
+
+-- the written packet holds these fields and this payload
+pub written_is6 : (h : Head6) (payload octets : List ℕ) → IsPacket6 h payload octets → Is6 h payload octets
+written_is6 h payload octets form = rw form.written is
+  where
+    headers : HasHeaders6 h (written6 h payload)
+    headers = written_headers6 h payload (omega (arith, form.exact)) form.unrouted form.upper form.placed form.in_range form.frag_in_range
+
+    the_room : Room h.upper h.start h.length h.frag
+    the_room = room h.upper h.start h.length h.frag form.placed form.in_range.length_fits
 
     is : Is6 h payload (written6 h payload)
     is = record {
-      fields = written_fields h behind form.in_range;
-      chain = rw (len_is, take_all (h.length + length (fragment_part h.upper h.frag)) behind (omega (arith, behind_is)), form.unrouted) (chain_back h.upper h.start h.length h.frag payload form.upper form.placed form.frag_in_range);
-      ends = rw len_is (omega (arith, the_room.start_is));
-      whole = rw len_is (omega (arith, behind_is));
-      payload_is = sym (ap (take h.length) (drop_at (fixed_header h ++ fragment_part h.upper h.frag) payload h.start head_is) ∙ take_all h.length payload (omega (arith, form.exact)));
+      fields = headers.fields;
+      chain = headers.chain;
+      ends = headers.ends;
+      whole = omega (arith, headers.ends, form.exact, the_room.start_is, length-append (fragment_part h.upper h.frag) payload);
+      payload_is = sym (written_payload6 h payload form.placed form.in_range.length_fits ∙ take_all h.length payload (omega (arith, form.exact)));
     }
 
 -- and has no cause

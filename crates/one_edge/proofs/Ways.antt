@@ -19,6 +19,7 @@ use Rattle.l4_headers.specs.declared.ports.L4.{L4}
 use Rattle.l4_headers.specs.Transport.{header_octets, l4_of, with_l4, IsBadTransport}
 use Rattle.l4_headers.proofs.Laws.{length-with_l4, bad_with_l4}
 use Rattle.l4_headers.proofs.RightSums.{header_stands}
+use Rattle.xlat46.specs.Fits.{FitsHead}
 use Rattle.xlat46.specs.Head.{is_fragment, upper_protocol, translated}
 use Rattle.xlat46.specs.Whole.{packet46}
 use Rattle.xlat64.specs.Whole.{Parts6, IsCarried6, sum64, packet64}
@@ -29,7 +30,7 @@ use Rattle.packets.specs.declared.packet4.Packet4.{Packet4}
 use Rattle.transit.proofs.Form.{low_offset}
 use Rattle.crossing.specs.Named.{Named, uncut}
 use Rattle.crossing.specs.Nat44.{with_source, with_ports, nat44}
-use Rattle.crossing.specs.Transfer.{Transfer, FitsHead, FitsEnds, crossing_of, packet_with}
+use Rattle.crossing.specs.Transfer.{Transfer, FitsEnds, crossing_of, packet_with}
 use Rattle.crossing.proofs.Heads.{whole_parts, payload_len_is, offset_there, head_there, head_back, form, named_uncut}
 use Rattle.crossing.proofs.Contents.{flow_number}
 use Rattle.crossing.proofs.Segment.{Carries, again_of, carried_back, parts_back, payload_there, payload_back, sum_there, length_there, length_back, segment_is, udp_has_sum, parts_there}

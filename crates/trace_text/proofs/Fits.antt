@@ -16,13 +16,14 @@ use Rattle.icmp_xlat.specs.Icmp46.{embedded46}
 use Rattle.l4_headers.specs.declared.ports.Ports.{Ports}
 use Rattle.l4_headers.specs.declared.ports.L4.{L4}
 use Rattle.l4_headers.specs.Transport.{l4_of}
+use Rattle.xlat46.specs.Fits.{FitsHead}
 use Rattle.xlat46.specs.Whole.{ArePorts}
 use Rattle.packets.specs.declared.packet4.Content4.{Content4}
 use Rattle.packets.specs.declared.packet4.Content4.TheVariants.{Segment, Later, Query, Error}
 use Rattle.packets.specs.declared.packet4.Packet4.{Packet4}
 use Rattle.packets.specs.Asked.{flow_of4}
 use Rattle.packets.specs.Packet4.{IsContent4, IsErrorOf4}
-use Rattle.crossing.specs.Transfer.{FitsHead, FitsContent}
+use Rattle.crossing.specs.Transfer.{FitsContent}
 use Rattle.icmp_messages.specs.declared.icmp6.Icmp6.{Icmp6}
 use Rattle.icmp_messages.specs.declared.inner6.Inner6.{Inner6}
 use Rattle.icmp_messages.specs.Inner.{IsInner6}

@@ -11,3 +11,9 @@ pub mod Onward
 pub mod Hops
 pub mod Computed
 pub mod Trials
+pub mod Readable
+pub mod SmallDomain
+pub mod InstancesToRelay
+pub mod InstancesFromRelay
+pub mod InstancesBetweenEdges
+pub mod InstancesInPieces

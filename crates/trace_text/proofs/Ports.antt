@@ -21,7 +21,7 @@ use Rattle.edge_node.specs.Ends.{ends_out, with_near_port, with_far_port}
 use Rattle.crossing.specs.Nat44.{with_source, with_destination, with_ports, with_identifier, content_from, content_to}
 use Rattle.crossing.specs.Transfer.{FitsPorts, content_with, inner_with}
 use Rattle.crossing.proofs.Error.{ReadsError}
-use Rattle.crossing.proofs.Inner.{inner_ports}
+use Rattle.icmp_xlat.specs.Moved.{ports_of}
 use Rattle.crossing.proofs.Segment.{ReadsFlow}
 use Rattle.crossing.proofs.Uncut.{FlowIs}
 use Rattle.trace_text.specs.Hops.{ArePortsOf4, ArePortsOf6}
@@ -62,12 +62,12 @@ far_against Udp port ports = refl
 far_against Icmp port ports = refl
 
 -- the identifier of an echo is both its ports
-near_again : (proto : Proto) (port : ℕ) (ports : Ports) → inner_ports proto (with_near_port proto true port ports) ≡ with_near_port proto true port ports
+near_again : (proto : Proto) (port : ℕ) (ports : Ports) → ports_of proto (with_near_port proto true port ports) ≡ with_near_port proto true port ports
 near_again Tcp port ports = refl
 near_again Udp port ports = refl
 near_again Icmp port ports = refl
 
-far_again : (proto : Proto) (port : ℕ) (ports : Ports) → with_far_port proto true port (inner_ports proto ports) ≡ with_far_port proto true port ports
+far_again : (proto : Proto) (port : ℕ) (ports : Ports) → with_far_port proto true port (ports_of proto ports) ≡ with_far_port proto true port ports
 far_again Tcp port ports = refl
 far_again Udp port ports = refl
 far_again Icmp port ports = refl
