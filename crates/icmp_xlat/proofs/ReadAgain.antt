@@ -39,13 +39,12 @@ use Rattle.xlat46.specs.Whole.{ArePorts}
 use Rattle.xlat46.proofs.Placed.{placed}
 use Rattle.xlat64.specs.Head.{protocol_of, identification}
 use Rattle.icmp_xlat.specs.declared.ends.Ends.{Ends}
-use Rattle.icmp_xlat.specs.declared.inner.Change.{Change}
 use Rattle.icmp_xlat.specs.declared.table.Row.{Row}
 use Rattle.icmp_xlat.specs.declared.table.Rest.{Rest}
 use Rattle.icmp_xlat.specs.declared.table.Rest.TheVariants.{Query, Zero, Protocol, Mtu, Pointer}
 use Rattle.icmp_xlat.specs.Icmp46.{rest46, embedded46, error46}
 use Rattle.icmp_xlat.specs.Icmp64.{rest64, embedded64, error64}
-use Rattle.icmp_xlat.specs.Inner.{inner_udp, inner_echo, inner_payload, echo_sum, echo46, echo64, change46, change64, inner_head46, inner_head64, inner46, inner64}
+use Rattle.icmp_xlat.specs.Inner.{Change, inner_udp, inner_echo, inner_payload, echo_sum, echo46, echo64, change46, change64, inner_head46, inner_head64, inner46, inner64}
 use Rattle.icmp_xlat.specs.Moved.{ports_of, moved46, moved64, held6, FitsInnerEnds6, FitsInnerEnds4}
 use Rattle.icmp_xlat.specs.Mtu.{mtu46, mtu64}
 use Rattle.icmp_xlat.specs.Table.{row_of, table46, pointer_of, pointers64}

@@ -12,6 +12,7 @@ use Rattle.ip4_packet.specs.declared.head.Head4.{Head4}
 use Rattle.ip4_packet.specs.Written.{written4}
 use Rattle.ip6_packet.specs.declared.head.Head6.{Head6}
 use Rattle.ip6_packet.specs.Written.{written6}
+use Rattle.l4_headers.specs.declared.ports.Ports.{Ports}
 use Rattle.l4_headers.specs.Transport.{l4_of, with_l4}
 use Rattle.l4_headers.specs.PseudoHeader.{pseudo_header6}
 use Rattle.l4_headers.specs.Readdressed.{readdressed_sum}
@@ -23,7 +24,14 @@ use Rattle.xlat46.specs.Whole.{addresses_before as addresses4, addresses_after a
 use Rattle.xlat64.specs.Head.{translated as translated64}
 use Rattle.xlat64.specs.Whole.{addresses_before as addresses6, addresses_after as addresses_of4}
 use Rattle.icmp_xlat.specs.declared.ends.Ends.{Ends}
-use Rattle.icmp_xlat.specs.declared.inner.Change.{Change}
+
+-- what changes in an embedded packet: the sum of the words outside its payload that its sum covers, before and after; its ports;
+-- and the type of an echo
+pub record Change : Type 0 where
+  pub before : ℕ
+  pub after : ℕ
+  pub ports : Ports
+  pub kind : ℕ
 
 -- a TCP header of which at least the ports stand
 abbrev pub inner_tcp : List ℕ → Change → List ℕ

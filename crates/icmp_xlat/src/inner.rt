@@ -3,6 +3,7 @@ ghost use Rattle.std.specs.Prelude.{◌≡◌, ◌≢◌, ◌+◌, ◌^◌, ◌<
 ghost use Rattle.octets.specs.Field.{word};
 ghost use Rattle.l4_headers.specs.Transport.{l4_of};
 ghost use Rattle.icmp_xlat.specs.Inner.{inner_tcp, inner_udp, inner_echo, echo_sum, inner_payload, echo46, echo64, change46, change64, inner_head46, inner_head64, inner46, inner64, Stands4, Stands6};
+ghost use Rattle.icmp_xlat.specs.Inside.{change_in};
 
 use crate::Ends;
 use icmp_messages::{Inner4, Inner6};
@@ -61,7 +62,7 @@ fn inner_tcp(front: Bytes, payload: &[u8], change: &Change) -> Result<Bytes, NoM
     requires long { 8 ≤ length payload.now }
     requires before { change.now.before ≤ 2 ^ 32 }
     requires after { change.now.after ≤ 2 ^ 32 }
-    ensures { IfOk result (λ octets. octets ≡ front ++ inner_tcp payload.now change.now) }
+    ensures { IfOk result (λ octets. octets ≡ front ++ inner_tcp payload.now (change_in change.now)) }
 {
     let ports = change.ports;
     if payload.len() < TCP_SUM_AT + 2 {
@@ -81,7 +82,7 @@ fn inner_udp(front: Bytes, payload: &[u8], change: &Change) -> Result<Bytes, NoM
     requires long { 8 ≤ length payload.now }
     requires before { change.now.before ≤ 2 ^ 32 }
     requires after { change.now.after ≤ 2 ^ 32 }
-    ensures { IfOk result (λ octets. octets ≡ front ++ inner_udp payload.now change.now) }
+    ensures { IfOk result (λ octets. octets ≡ front ++ inner_udp payload.now (change_in change.now)) }
 {
     let l4 = standing(Proto::Udp, payload, UDP_SUM_AT);
     let sum = if l4.sum == 0 {
@@ -98,7 +99,7 @@ fn echo_sum(payload: &[u8], change: &Change) -> u16
     requires long { 8 ≤ length payload.now }
     requires before { change.now.before ≤ 2 ^ 32 }
     requires after { change.now.after ≤ 2 ^ 32 }
-    ensures { result ≡ echo_sum payload.now change.now }
+    ensures { result ≡ echo_sum payload.now (change_in change.now) }
 {
     let gone = u64::from(word_at(payload, 0)) + u64::from(word_at(payload, PORTS_END));
     let come = u64::from(change.kind) * 256 + u64::from(change.ports.src);
@@ -111,7 +112,7 @@ fn inner_echo(front: Bytes, payload: &[u8], change: &Change) -> Result<Bytes, No
     requires long { 8 ≤ length payload.now }
     requires before { change.now.before ≤ 2 ^ 32 }
     requires after { change.now.after ≤ 2 ^ 32 }
-    ensures { IfOk result (λ octets. octets ≡ front ++ inner_echo payload.now change.now) }
+    ensures { IfOk result (λ octets. octets ≡ front ++ inner_echo payload.now (change_in change.now)) }
 {
     let identifier = change.ports.src;
     let sum = echo_sum(payload, change);
@@ -134,7 +135,7 @@ fn inner_payload(
     requires long { 8 ≤ length payload.now }
     requires before { change.now.before ≤ 2 ^ 32 }
     requires after { change.now.after ≤ 2 ^ 32 }
-    ensures { IfOk result (λ octets. octets ≡ front ++ inner_payload proto payload.now change.now) }
+    ensures { IfOk result (λ octets. octets ≡ front ++ inner_payload proto payload.now (change_in change.now)) }
 {
     match proto {
         Proto::Tcp => inner_tcp(front, payload, change),
@@ -168,7 +169,7 @@ fn echo64(kind: u8) -> u8
 /// What changes in a packet that an ICMPv4 error embeds.
 fn change46(inner: &Inner4, ends: &Ends<Addr6>) -> Change
     requires { Stands4 inner.now }
-    ensures change { result ≡ change46 inner.now ends.now inner.now.proto }
+    ensures change { change_in result ≡ change46 inner.now ends.now inner.now.proto }
     ensures before { result.before ≤ 2 ^ 32 }
     ensures after { result.after ≤ 2 ^ 32 }
 {
@@ -196,7 +197,7 @@ fn change46(inner: &Inner4, ends: &Ends<Addr6>) -> Change
 /// What changes in a packet that an ICMPv6 error embeds.
 fn change64(inner: &Inner6, ends: &Ends<Addr4>) -> Change
     requires { Stands6 inner.now }
-    ensures change { result ≡ change64 inner.now ends.now inner.now.proto }
+    ensures change { change_in result ≡ change64 inner.now ends.now inner.now.proto }
     ensures before { result.before ≤ 2 ^ 32 }
     ensures after { result.after ≤ 2 ^ 32 }
 {

@@ -149,23 +149,25 @@ pieces_to_the_relay = record {
       };
       replaced = refl;
     },
-    (record {
-      relay = relay_in 8;
-      relay_is = relay_is 8;
-      read = out_second;
-      arrives = packet6 true out_second.head (replicate 16 0) out_second.content refl refl (later6 out_second.head refl);
-      received = record {
-        ports = record { src = 1232; dst = 53 };
-        flow = λ only. absurd (only Udp refl);
-        src = shared;
-        dst = server;
-        source = home_is_a_source;
-        destination = server_is_a_destination;
-        is = (omega arith, refl, omega arith);
-      };
-      replaced = refl;
-    },
-    tt)
+    (
+      record {
+        relay = relay_in 8;
+        relay_is = relay_is 8;
+        read = out_second;
+        arrives = packet6 true out_second.head (replicate 16 0) out_second.content refl refl (later6 out_second.head refl);
+        received = record {
+          ports = record { src = 1232; dst = 53 };
+          flow = λ only. absurd (only Udp refl);
+          src = shared;
+          dst = server;
+          source = home_is_a_source;
+          destination = server_is_a_destination;
+          is = (omega arith, refl, omega arith);
+        };
+        replaced = refl;
+      },
+      tt,
+    ),
   );
 }
 
@@ -286,18 +288,20 @@ pieces_from_the_relay = record {
       received = (omega arith, refl, omega arith);
       replaced = refl;
     },
-    (record {
-      edge = record { step = step_of home new_bindings in_noted; answer = In other_host 5001 server server [] };
-      rules = rules_are home new_bindings in_noted;
-      fits = omega arith;
-      read = in_second;
-      arrives = packet6 false in_second.head (replicate 16 0) in_second.content refl refl (later6 in_second.head refl);
-      answered = second_comes;
-      id = 8;
-      received = (omega arith, refl, omega arith);
-      replaced = refl;
-    },
-    tt)
+    (
+      record {
+        edge = record { step = step_of home new_bindings in_noted; answer = In other_host 5001 server server [] };
+        rules = rules_are home new_bindings in_noted;
+        fits = omega arith;
+        read = in_second;
+        arrives = packet6 false in_second.head (replicate 16 0) in_second.content refl refl (later6 in_second.head refl);
+        answered = second_comes;
+        id = 8;
+        received = (omega arith, refl, omega arith);
+        replaced = refl;
+      },
+      tt,
+    ),
   );
 }
 
@@ -425,17 +429,19 @@ pieces_between_edges = record {
       received = (omega arith, refl, omega arith);
       replaced = refl;
     },
-    (record {
-      edge = record { step = at_other over_noted; answer = In other_host 8080 shared shared [] };
-      rules = rules_are other other_bindings over_noted;
-      fits = omega arith;
-      read = over_second;
-      arrives = packet6 false over_second.head (replicate 16 0) over_second.content refl refl (later6 over_second.head refl);
-      answered = second_comes_over;
-      id = 8;
-      received = (omega arith, refl, omega arith);
-      replaced = refl;
-    },
-    tt)
+    (
+      record {
+        edge = record { step = at_other over_noted; answer = In other_host 8080 shared shared [] };
+        rules = rules_are other other_bindings over_noted;
+        fits = omega arith;
+        read = over_second;
+        arrives = packet6 false over_second.head (replicate 16 0) over_second.content refl refl (later6 over_second.head refl);
+        answered = second_comes_over;
+        id = 8;
+        received = (omega arith, refl, omega arith);
+        replaced = refl;
+      },
+      tt,
+    ),
   );
 }

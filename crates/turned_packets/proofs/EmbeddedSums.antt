@@ -19,10 +19,7 @@ use Rattle.icmp_messages.specs.declared.inner4.Inner4.{Inner4}
 use Rattle.icmp_messages.specs.Inner.{IsCarried4, IsInner4}
 use Rattle.icmp_xlat.specs.Sums.{outside4, IsRightIn4, HasSum}
 use Rattle.icmp_xlat.proofs.RightSums.{words-echo}
-use Rattle.turned_packets.specs.declared.ends.End.{End}
-use Rattle.turned_packets.specs.declared.ends.End.TheVariants.{Source, Destination}
-use Rattle.turned_packets.specs.declared.ends.NewEnd.{NewEnd}
-use Rattle.turned_packets.specs.Ends.{address_at, port_at, with_address}
+use Rattle.turned_packets.specs.Ends.{End, Source, Destination, NewEnd, address_at, port_at, with_address}
 use Rattle.turned_packets.specs.Segment.{changed_sum, end_words}
 use Rattle.turned_packets.specs.Embedded.{port_place, sum_place}
 use Rattle.turned_packets.specs.Sums.{turned_inner_payload, turned_inner, IsZeroEcho}

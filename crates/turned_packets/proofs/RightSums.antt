@@ -18,10 +18,7 @@ use Rattle.l4_headers.proofs.RightSums.{header_stands, words-pseudo4}
 use Rattle.icmp_messages.specs.declared.icmp4.Icmp4.{Icmp4}
 use Rattle.icmp_messages.specs.Message.{with_sum4, message4}
 use Rattle.packets.specs.Packet4.{IsSegment4}
-use Rattle.turned_packets.specs.declared.ends.End.{End}
-use Rattle.turned_packets.specs.declared.ends.End.TheVariants.{Source, Destination}
-use Rattle.turned_packets.specs.declared.ends.NewEnd.{NewEnd}
-use Rattle.turned_packets.specs.Ends.{address_at, port_at, with_address, with_port}
+use Rattle.turned_packets.specs.Ends.{End, Source, Destination, NewEnd, address_at, port_at, with_address, with_port}
 use Rattle.turned_packets.specs.Segment.{changed_sum, PortsFit, turned_segment}
 
 -- no protocol that is carried has the number 0

@@ -7,10 +7,7 @@ use Rattle.octets.specs.declared.proto.Proto.TheVariants.{Tcp, Udp, Icmp}
 use Rattle.inet_sum.specs.Sum.{words, adjusted}
 use Rattle.ip4_packet.specs.declared.head.Head4.{Head4}
 use Rattle.icmp_messages.specs.declared.inner4.Inner4.{Inner4}
-use Rattle.turned_packets.specs.declared.ends.End.{End}
-use Rattle.turned_packets.specs.declared.ends.End.TheVariants.{Source, Destination}
-use Rattle.turned_packets.specs.declared.ends.NewEnd.{NewEnd}
-use Rattle.turned_packets.specs.Ends.{address_at, port_at}
+use Rattle.turned_packets.specs.Ends.{End, Source, Destination, NewEnd, address_at, port_at}
 use Rattle.turned_packets.specs.Segment.{changed_sum, end_words}
 
 -- the octets with a number of 32 bits at a place, and all others as they were

@@ -3,9 +3,17 @@ use Rattle.std.specs.Prelude.{ℕ}
 use Rattle.octets.specs.declared.address.Addr4.{Addr4}
 use Rattle.ip4_packet.specs.declared.head.Head4.{Head4}
 use Rattle.l4_headers.specs.declared.ports.Ports.{Ports}
-use Rattle.turned_packets.specs.declared.ends.End.{End}
-use Rattle.turned_packets.specs.declared.ends.End.TheVariants.{Source, Destination}
-use Rattle.turned_packets.specs.declared.ends.NewEnd.{NewEnd}
+
+-- an end of a packet
+pub data End : Type 0 where
+  Source : End
+  Destination : End
+
+-- the address and the port that come to stand at an end
+pub record NewEnd : Type 0 where
+  pub end : End
+  pub addr : Addr4
+  pub port : ℕ
 
 -- the other end
 abbrev pub other_end : End → End

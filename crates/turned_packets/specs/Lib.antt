@@ -1,4 +1,5 @@
 pub mod Ends
+pub mod Inside
 pub mod Segment
 pub mod Embedded
 pub mod Sums

@@ -9,8 +9,7 @@ use Rattle.ip4_packet.specs.declared.head.Head4.{Head4}
 use Rattle.l4_headers.specs.declared.ports.Ports.{Ports}
 use Rattle.l4_headers.specs.declared.ports.L4.{L4}
 use Rattle.l4_headers.specs.Transport.{with_l4}
-use Rattle.turned_packets.specs.declared.ends.NewEnd.{NewEnd}
-use Rattle.turned_packets.specs.Ends.{address_at, port_at, with_port}
+use Rattle.turned_packets.specs.Ends.{NewEnd, address_at, port_at, with_port}
 
 -- The sum `c` after words of sum `old` that it covers became words of sum `new` (RFC 1624). UDP has 65535 in the place of
 -- 0, and a 0 there says that there is no sum, which stays so (RFC 768).

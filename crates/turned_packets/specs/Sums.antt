@@ -8,8 +8,7 @@ use Rattle.inet_sum.specs.Sum.{words}
 use Rattle.l4_headers.specs.declared.ports.Ports.{Ports}
 use Rattle.icmp_messages.specs.declared.icmp4.Icmp4.{Icmp4}
 use Rattle.icmp_messages.specs.declared.inner4.Inner4.{Inner4}
-use Rattle.turned_packets.specs.declared.ends.NewEnd.{NewEnd}
-use Rattle.turned_packets.specs.Ends.{with_address, with_port}
+use Rattle.turned_packets.specs.Ends.{NewEnd, with_address, with_port}
 use Rattle.turned_packets.specs.Embedded.{port_place, sum_place, embedded_sum, turned_embedded}
 
 -- its ports: both ports of an echo are its identifier

@@ -11,10 +11,7 @@ use Rattle.icmp_messages.specs.Message.{message4}
 use Rattle.packets.specs.declared.packet4.Content4.{Content4}
 use Rattle.packets.specs.declared.packet4.Content4.TheVariants.{Segment, Later, Query, Error}
 use Rattle.packets.specs.declared.packet4.Packet4.{Packet4}
-use Rattle.turned_packets.specs.declared.ends.End.{End}
-use Rattle.turned_packets.specs.declared.ends.End.TheVariants.{Source, Destination}
-use Rattle.turned_packets.specs.declared.ends.NewEnd.{NewEnd}
-use Rattle.turned_packets.specs.Ends.{with_address, embedded_end}
+use Rattle.turned_packets.specs.Ends.{End, Source, Destination, NewEnd, with_address, embedded_end}
 use Rattle.turned_packets.specs.Segment.{turned_segment}
 use Rattle.turned_packets.specs.Embedded.{turned_embedded}
 

@@ -4,6 +4,7 @@ ghost use Rattle.std.specs.Prelude.{◌≡◌, ◌+◌, ◌≤◌, IfOk, length}
 ghost use Rattle.octets.specs.Field.{with_word};
 ghost use Rattle.icmp_messages.specs.Inner.{IsInner4};
 ghost use Rattle.turned_packets.specs.Embedded.{with_quad, sum_place, embedded_header, embedded_transport, embedded_sum, turned_embedded};
+ghost use Rattle.turned_packets.specs.Inside.{new_end_in};
 
 use crate::ends::NewEnd;
 use crate::layout::{HEADER_SUM_AT, address_place, port_place, sum_place};
@@ -37,7 +38,7 @@ fn set_quad(octets: &mut [u8], at: usize, number: u32)
 /// The header at the front of these octets.
 fn turn_header(octets: &mut [u8], new: &NewEnd, head: &Head4)
     requires { 20 ≤ length octets.old }
-    ensures turned { octets.new ≡ embedded_header new.now head.now octets.old }
+    ensures turned { octets.new ≡ embedded_header (new_end_in new.now) head.now octets.old }
     ensures length { length octets.new ≡ length octets.old }
 {
     let old_words = address_sum4(new.end.address_at(head));
@@ -51,7 +52,7 @@ fn turn_header(octets: &mut [u8], new: &NewEnd, head: &Head4)
 fn embedded_sum(new: &NewEnd, inner: &Inner4, sum_at: usize) -> u16
     requires place { sum_at ≡ sum_place inner.now.proto }
     requires stands { sum_at + 2 ≤ length inner.now.payload }
-    ensures { result ≡ embedded_sum new.now inner.now }
+    ensures { result ≡ embedded_sum (new_end_in new.now) inner.now }
 {
     let end = new.end;
     let proto = inner.proto;
@@ -69,7 +70,7 @@ fn embedded_sum(new: &NewEnd, inner: &Inner4, sum_at: usize) -> u16
 fn turn_transport(octets: &mut [u8], new: &NewEnd, inner: &Inner4)
     requires long { 8 ≤ length inner.now.payload }
     requires stands { inner.now.head.head_len + length inner.now.payload ≤ length octets.old }
-    ensures { octets.new ≡ embedded_transport new.now inner.now octets.old }
+    ensures { octets.new ≡ embedded_transport (new_end_in new.now) inner.now octets.old }
 {
     let start = usize::from(inner.head.head_len);
     let sum_at = sum_place(inner.proto);
@@ -89,7 +90,7 @@ pub fn turned_embedded(
     requires header { 20 ≤ inner.now.head.head_len }
     requires long { 8 ≤ length inner.now.payload }
     requires stands { inner.now.head.head_len + length inner.now.payload ≤ length octets.now }
-    ensures { IfOk result (λ turned. turned ≡ turned_embedded new.now inner.now octets.now) }
+    ensures { IfOk result (λ turned. turned ≡ turned_embedded (new_end_in new.now) inner.now octets.now) }
 {
     let mut changed = Vec::from_slice(alloc, octets)?;
     turn_header(&mut changed, new, &inner.head);

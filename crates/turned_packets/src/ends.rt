@@ -2,6 +2,7 @@
 
 ghost use Rattle.std.specs.Prelude.{◌≡◌};
 ghost use Rattle.turned_packets.specs.Ends.{other_end, address_at, port_at, with_address, with_port, embedded_end};
+ghost use Rattle.turned_packets.specs.Inside.{end_in, new_end_in};
 
 use ip4_packet::Head4;
 use l4_headers::Ports;
@@ -25,7 +26,7 @@ pub struct NewEnd {
 impl End {
     /// The other end.
     fn other(self) -> End
-        ensures { result ≡ other_end self }
+        ensures { end_in result ≡ other_end (end_in self) }
     {
         match self {
             End::Source => End::Destination,
@@ -35,7 +36,7 @@ impl End {
 
     /// The address there.
     pub fn address_at(self, head: &Head4) -> Addr4
-        ensures { result ≡ address_at self head.now }
+        ensures { result ≡ address_at (end_in self) head.now }
     {
         match self {
             End::Source => head.src,
@@ -45,7 +46,7 @@ impl End {
 
     /// The port there.
     pub fn port_at(self, ports: Ports) -> u16
-        ensures { result ≡ port_at self ports }
+        ensures { result ≡ port_at (end_in self) ports }
     {
         match self {
             End::Source => ports.src,
@@ -55,7 +56,7 @@ impl End {
 
     /// The header with another address there.
     pub fn with_address(self, addr: Addr4, head: &Head4) -> Head4
-        ensures { result ≡ with_address self addr head.now }
+        ensures { result ≡ with_address (end_in self) addr head.now }
     {
         match self {
             End::Source => Head4 { src: addr, ..*head },
@@ -65,7 +66,7 @@ impl End {
 
     /// The ports with another one there.
     pub fn with_port(self, port: u16, ports: Ports) -> Ports
-        ensures { result ≡ with_port self port ports }
+        ensures { result ≡ with_port (end_in self) port ports }
     {
         match self {
             End::Source => Ports { src: port, ..ports },
@@ -77,7 +78,7 @@ impl End {
 impl NewEnd {
     /// The same end of a flow in the packet that an error embeds, which went the other way.
     pub fn embedded(&self) -> NewEnd
-        ensures { result ≡ embedded_end self.now }
+        ensures { new_end_in result ≡ embedded_end (new_end_in self.now) }
     {
         NewEnd {
             end: self.end.other(),

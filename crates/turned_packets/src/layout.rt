@@ -2,6 +2,7 @@
 
 ghost use Rattle.std.specs.Prelude.{◌≡◌};
 ghost use Rattle.turned_packets.specs.Embedded.{address_place, port_place, sum_place};
+ghost use Rattle.turned_packets.specs.Inside.{end_in};
 
 use crate::ends::End;
 use octets::Proto;
@@ -31,7 +32,7 @@ const ICMP_SUM_AT: usize = 2;
 
 /// The address of an end, in octets from the start of the IPv4 header.
 pub fn address_place(end: End) -> usize
-    ensures { result ≡ address_place end }
+    ensures { result ≡ address_place (end_in end) }
 {
     match end {
         End::Source => SOURCE_AT,
@@ -41,7 +42,7 @@ pub fn address_place(end: End) -> usize
 
 /// The port of an end, in octets from the start of the transport header.
 pub fn port_place(proto: Proto, end: End) -> usize
-    ensures { result ≡ port_place proto end }
+    ensures { result ≡ port_place proto (end_in end) }
 {
     match (proto, end) {
         (Proto::Icmp, _) => IDENTIFIER_AT,

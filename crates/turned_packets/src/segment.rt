@@ -4,6 +4,7 @@ ghost use Rattle.std.specs.Prelude.{◌≡◌, ◌≢◌, ◌^◌, ◌≤◌, �
 ghost use Rattle.octets.specs.declared.proto.Proto.TheVariants.{Icmp};
 ghost use Rattle.l4_headers.specs.Transport.{header_octets};
 ghost use Rattle.turned_packets.specs.Segment.{changed_sum, end_words, turned_segment};
+ghost use Rattle.turned_packets.specs.Inside.{new_end_in};
 
 use crate::ends::NewEnd;
 use inet_sum::{adjust, as_udp};
@@ -43,7 +44,7 @@ pub fn turned_segment(
 ) -> Result<Bytes, NoMemory>
     requires proto { proto ≢ Icmp }
     requires stands { header_octets proto ≤ length payload.now }
-    ensures { IfOk result (λ octets. octets ≡ front ++ turned_segment new.now head.now proto l4.now payload.now) }
+    ensures { IfOk result (λ octets. octets ≡ front ++ turned_segment (new_end_in new.now) head.now proto l4.now payload.now) }
 {
     let old_words = end_words(proto, new.end.address_at(head), new.end.port_at(l4.ports));
     let new_words = end_words(proto, new.addr, new.port);

@@ -7,6 +7,7 @@ ghost use Rattle.icmp_messages.specs.Message.{message4};
 ghost use Rattle.packets.specs.Packet4.{IsContent4, IsPacket4};
 ghost use Rattle.turned_packets.specs.declared.ends.End.TheVariants.{Source as TheSource};
 ghost use Rattle.turned_packets.specs.Turned.{turned_head, turned_query, turned_error, turned_payload, turned, turned_out, turned_in};
+ghost use Rattle.turned_packets.specs.Inside.{new_end_in};
 
 use crate::embedded::turned_embedded;
 use crate::ends::{End, NewEnd};
@@ -24,7 +25,7 @@ const HEADER_LEN: u8 = 20;
 fn turned_head(new: &NewEnd, head: &Head4, len: u16) -> Head4
     requires alive { new.now.end ≡ TheSource → 1 ≤ head.now.ttl }
     requires fits { len ≤ 65515 }
-    ensures { result ≡ turned_head new.now head.now len }
+    ensures { result ≡ turned_head (new_end_in new.now) head.now len }
 {
     let ttl = match new.end {
         End::Source => head.ttl - 1,
@@ -40,7 +41,7 @@ fn turned_head(new: &NewEnd, head: &Head4, len: u16) -> Head4
 
 /// A turned query.
 fn turned_query(alloc: Global, new: &NewEnd, message: &Icmp4) -> Result<Bytes, NoMemory>
-    ensures { IfOk result (λ octets. octets ≡ message4 (turned_query new.now message.now)) }
+    ensures { IfOk result (λ octets. octets ≡ message4 (turned_query (new_end_in new.now) message.now)) }
 {
     let rest = u32::from(new.port) << 16 | message.rest & 0xffff;
     let turned = Icmp4 {
@@ -62,7 +63,7 @@ fn turned_error(
     requires header { 20 ≤ inner.now.head.head_len }
     requires long { 8 ≤ length inner.now.payload }
     requires stands { inner.now.head.head_len + length inner.now.payload ≤ length message.now.body }
-    ensures { IfOk result (λ octets. octets ≡ message4 (turned_error new.now message.now inner.now)) }
+    ensures { IfOk result (λ octets. octets ≡ message4 (turned_error (new_end_in new.now) message.now inner.now)) }
 {
     let turned = Icmp4 {
         kind: message.kind,
@@ -82,7 +83,7 @@ fn turned_payload(
     payload: &[u8],
 ) -> Result<Bytes, NoMemory>
     requires { IsContent4 packet.now.head payload.now packet.now.content }
-    ensures { IfOk result (λ octets. octets ≡ front ++ turned_payload new.now packet.now.head payload.now packet.now.content) }
+    ensures { IfOk result (λ octets. octets ≡ front ++ turned_payload (new_end_in new.now) packet.now.head payload.now packet.now.content) }
 {
     let mut octets = front;
     match &packet.content {
@@ -104,7 +105,7 @@ fn turned_payload(
 fn turned(alloc: Global, new: &NewEnd, packet: &Packet4, octets: &[u8]) -> Result<Bytes, NoMemory>
     requires is { IsPacket4 packet.now octets.now }
     requires alive { new.now.end ≡ TheSource → 1 ≤ packet.now.head.ttl }
-    ensures { IfOk result (λ written. written ≡ turned new.now packet.now octets.now) }
+    ensures { IfOk result (λ written. written ≡ turned (new_end_in new.now) packet.now octets.now) }
 {
     let payload = packet.head.payload(octets);
     let head = turned_head(new, &packet.head, payload.len() as u16);
