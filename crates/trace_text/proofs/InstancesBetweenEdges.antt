@@ -93,7 +93,9 @@ whole_comes = record {
   is = refl;
 }
 
-pub a_whole_packet : EdgeToEdge setting (record { step = at_home []; answer = goes_out [] }) (record { step = at_other []; answer = comes_in [] }) whole
+pub a_whole_packet : EdgeToEdge setting
+    (record { step = at_home []; answer = goes_out [] })
+    (record { step = at_other []; answer = comes_in [] }) whole
 a_whole_packet = record {
   taken = taken4 whole.taken.head whole_payload whole.taken.content refl refl (udp4 whole.taken.head whole_payload refl);
   out = whole_goes;
@@ -101,7 +103,8 @@ a_whole_packet = record {
   fits_out = (omega arith, omega arith, omega arith);
   sent = (omega arith, refl, omega arith);
   emitted = refl;
-  arrives = packet6 false whole.read.head whole_payload_over_six whole.read.content refl refl (udp6 whole.read.head whole_payload_over_six refl);
+  arrives = packet6 false whole.read.head whole_payload_over_six whole.read.content refl refl
+      (udp6 whole.read.head whole_payload_over_six refl);
   inward = whole_comes;
   rules_in = rules_are other other_bindings [];
   fits_in = omega arith;
@@ -135,7 +138,10 @@ first = record {
       96 ∷ 0 ∷ 0 ∷ 0 ∷ 0 ∷ 24 ∷ 44 ∷ 63 ∷ 32 ∷ 1 ∷ 13 ∷ 184 ∷ 0 ∷ 18 ∷ 52 ∷ 0 ∷ 0 ∷ 0 ∷ 192 ∷ 0 ∷ 2 ∷ 18 ∷ 0 ∷ 52 ∷ 32 ∷ 1 ∷ 13
       ∷ 184 ∷ 0 ∷ 18 ∷ 53 ∷ 0 ∷ 0 ∷ 0 ∷ 192 ∷ 0 ∷ 2 ∷ 18 ∷ 0 ∷ 53 ∷ 17 ∷ 0 ∷ 0 ∷ 1 ∷ 0 ∷ 0 ∷ 0 ∷ 21 ∷ 4 ∷ 208 ∷ 4 ∷ 212 ∷ 0 ∷ 24
       ∷ 105 ∷ 170 ∷ 97 ∷ 98 ∷ 99 ∷ 100 ∷ 101 ∷ 102 ∷ 103 ∷ 104 ∷ [];
-  read = record { head = head6 63 home6 other6 17 16 (Some (record { offset = 0; more = true; id = 21 })); content = Segment6 Udp (l4_of Udp first_payload_over_six) };
+  read = record {
+    head = head6 63 home6 other6 17 16 (Some (record { offset = 0; more = true; id = 21 }));
+    content = Segment6 Udp (l4_of Udp first_payload_over_six);
+  };
   four =
       69 ∷ 0 ∷ 0 ∷ 36 ∷ 0 ∷ 21 ∷ 32 ∷ 0 ∷ 62 ∷ 17 ∷ 216 ∷ 229 ∷ 192 ∷ 0 ∷ 2 ∷ 18 ∷ 192 ∷ 168 ∷ 1 ∷ 20 ∷ 4 ∷ 208 ∷ 31 ∷ 144 ∷ 0
       ∷ 24 ∷ 20 ∷ 68 ∷ 97 ∷ 98 ∷ 99 ∷ 100 ∷ 101 ∷ 102 ∷ 103 ∷ 104 ∷ [];
@@ -209,7 +215,9 @@ first_comes = record {
   is = refl;
 }
 
-pub a_first_fragment : EdgeToEdge setting (record { step = at_home waiting; answer = goes_out (parcel ∷ []) }) (record { step = at_other waiting_over_six; answer = comes_in (parcel_over_six ∷ []) }) first
+pub a_first_fragment : EdgeToEdge setting
+    (record { step = at_home waiting; answer = goes_out (parcel ∷ []) })
+    (record { step = at_other waiting_over_six; answer = comes_in (parcel_over_six ∷ []) }) first
 a_first_fragment = record {
   taken = taken4 first.taken.head first_payload first.taken.content refl refl (udp4 first.taken.head first_payload refl);
   out = first_goes;
@@ -217,7 +225,8 @@ a_first_fragment = record {
   fits_out = (omega arith, omega arith, omega arith);
   sent = (omega arith, refl, omega arith);
   emitted = refl;
-  arrives = packet6 false first.read.head first_payload_over_six first.read.content refl refl (udp6 first.read.head first_payload_over_six refl);
+  arrives = packet6 false first.read.head first_payload_over_six first.read.content refl refl
+      (udp6 first.read.head first_payload_over_six refl);
   inward = first_comes;
   rules_in = rules_are other other_bindings waiting_over_six;
   fits_in = omega arith;
@@ -226,7 +235,9 @@ a_first_fragment = record {
   received = (omega arith, refl, omega arith);
 }
 
-pub a_later_fragment_that_is_freed : EdgeToEdge setting (record { step = at_home waiting; answer = goes_out (parcel ∷ []) }) (record { step = at_other waiting_over_six; answer = comes_in (parcel_over_six ∷ []) }) later
+pub a_later_fragment_that_is_freed : EdgeToEdge setting
+    (record { step = at_home waiting; answer = goes_out (parcel ∷ []) })
+    (record { step = at_other waiting_over_six; answer = comes_in (parcel_over_six ∷ []) }) later
 a_later_fragment_that_is_freed = record {
   taken = taken4 later.taken.head later_payload later.taken.content refl refl (later4 later.taken.head refl);
   out = first_goes;
@@ -266,7 +277,12 @@ error_inner_over_six =
 
 abbrev error_embedded : Inner4
 error_embedded =
-    record { head = record (head4 62 shared other_host 17 10) { id = 9 }; payload = error_inner; ports = (l4_of Udp error_inner).ports; proto = Udp }
+    record {
+      head = record (head4 62 shared other_host 17 10) { id = 9 };
+      payload = error_inner;
+      ports = (l4_of Udp error_inner).ports;
+      proto = Udp;
+    }
 
 abbrev error_embedded_over_six : Inner6
 error_embedded_over_six = record {
@@ -284,7 +300,10 @@ error_message_over_six = record { kind = 1; code = 4; rest = 0; body = drop 8 er
 
 abbrev error : Passed
 error = record {
-  taken = record { head = record (head4 64 other_host shared 1 38) { id = 1 }; content = Error4 error_message (row 3 3 1 4 Zero) error_embedded };
+  taken = record {
+    head = record (head4 64 other_host shared 1 38) { id = 1 };
+    content = Error4 error_message (row 3 3 1 4 Zero) error_embedded;
+  };
   octets =
       69 ∷ 0 ∷ 0 ∷ 58 ∷ 0 ∷ 1 ∷ 0 ∷ 0 ∷ 64 ∷ 1 ∷ 246 ∷ 243 ∷ 192 ∷ 168 ∷ 1 ∷ 20 ∷ 192 ∷ 0 ∷ 2 ∷ 18 ∷ 3 ∷ 3 ∷ 128 ∷ 231 ∷ 0 ∷ 0
       ∷ 0 ∷ 0 ∷ 69 ∷ 0 ∷ 0 ∷ 30 ∷ 0 ∷ 9 ∷ 0 ∷ 0 ∷ 62 ∷ 17 ∷ 248 ∷ 247 ∷ 192 ∷ 0 ∷ 2 ∷ 18 ∷ 192 ∷ 168 ∷ 1 ∷ 20 ∷ 4 ∷ 208 ∷ 31
@@ -300,7 +319,10 @@ error = record {
       ∷ 184 ∷ 0 ∷ 18 ∷ 52 ∷ 0 ∷ 0 ∷ 0 ∷ 192 ∷ 0 ∷ 2 ∷ 18 ∷ 0 ∷ 52 ∷ 1 ∷ 4 ∷ 68 ∷ 53 ∷ 0 ∷ 0 ∷ 0 ∷ 0 ∷ 96 ∷ 0 ∷ 0 ∷ 0 ∷ 0 ∷ 10
       ∷ 17 ∷ 62 ∷ 32 ∷ 1 ∷ 13 ∷ 184 ∷ 0 ∷ 18 ∷ 52 ∷ 0 ∷ 0 ∷ 0 ∷ 192 ∷ 0 ∷ 2 ∷ 18 ∷ 0 ∷ 52 ∷ 32 ∷ 1 ∷ 13 ∷ 184 ∷ 0 ∷ 18 ∷ 53 ∷ 0
       ∷ 0 ∷ 0 ∷ 192 ∷ 0 ∷ 2 ∷ 18 ∷ 0 ∷ 53 ∷ 4 ∷ 208 ∷ 4 ∷ 212 ∷ 0 ∷ 10 ∷ 68 ∷ 168 ∷ 104 ∷ 105 ∷ [];
-  read = record { head = head6 63 other6 home6 58 58 None; content = Error6 error_message_over_six (row 1 4 3 3 Zero) error_embedded_over_six };
+  read = record {
+    head = head6 63 other6 home6 58 58 None;
+    content = Error6 error_message_over_six (row 1 4 3 3 Zero) error_embedded_over_six;
+  };
   four =
       69 ∷ 0 ∷ 0 ∷ 58 ∷ 0 ∷ 7 ∷ 0 ∷ 0 ∷ 62 ∷ 1 ∷ 248 ∷ 247 ∷ 192 ∷ 0 ∷ 2 ∷ 18 ∷ 192 ∷ 168 ∷ 1 ∷ 10 ∷ 3 ∷ 3 ∷ 128 ∷ 221 ∷ 0 ∷ 0
       ∷ 0 ∷ 0 ∷ 69 ∷ 0 ∷ 0 ∷ 30 ∷ 0 ∷ 0 ∷ 0 ∷ 0 ∷ 62 ∷ 17 ∷ 249 ∷ 10 ∷ 192 ∷ 168 ∷ 1 ∷ 10 ∷ 192 ∷ 0 ∷ 2 ∷ 18 ∷ 19 ∷ 136 ∷ 4
@@ -332,11 +354,25 @@ error_comes = record {
   is = refl;
 }
 
-pub an_error : EdgeToEdge setting (record { step = at_other []; answer = Out shared 1236 other6 home6 [] }) (record { step = at_home []; answer = In host 5000 shared shared [] }) error
+pub an_error : EdgeToEdge setting
+    (record { step = at_other []; answer = Out shared 1236 other6 home6 [] })
+    (record { step = at_home []; answer = In host 5000 shared shared [] }) error
 unfolding chain_in
 an_error = record {
   taken = taken4 error.taken.head error_payload error.taken.content refl refl (record {
-    message = record { protocol = refl; whole = refl; message = record { stands = omega arith; kind = refl; code = refl; rest = refl; body = refl; right = refl }; found = refl };
+    message = record {
+      protocol = refl;
+      whole = refl;
+      message = record {
+        stands = omega arith;
+        kind = refl;
+        code = refl;
+        rest = refl;
+        body = refl;
+        right = refl;
+      };
+      found = refl;
+    };
     error = record { found = refl; translated = λ none. let e : Zero ≡ Pointer = none.0 in cc; no_query = λ e. cc };
     embedded = inner4 error_embedded.head error_inner refl refl;
     answers = refl;
@@ -347,7 +383,19 @@ an_error = record {
   sent = (omega arith, refl, omega arith);
   emitted = refl;
   arrives = packet6 false error.read.head error_payload_over_six error.read.content refl refl (record {
-    message = record { protocol = refl; whole = whole6 error.read.head refl refl; message = record { stands = omega arith; kind = refl; code = refl; rest = refl; body = refl; right = refl }; found = refl };
+    message = record {
+      protocol = refl;
+      whole = whole6 error.read.head refl refl;
+      message = record {
+        stands = omega arith;
+        kind = refl;
+        code = refl;
+        rest = refl;
+        body = refl;
+        right = refl;
+      };
+      found = refl;
+    };
     error = record { found = refl; translated = λ none. let e : Zero ≡ Pointer = none.0 in cc; no_query = λ e. cc };
     embedded = inner6 error_embedded_over_six.head error_inner_over_six refl refl refl;
     answers = record { back = refl; from_end = λ relay. absurd (false≢true relay) };

@@ -92,7 +92,8 @@ a_whole_packet = record {
     is = (omega arith, refl, omega arith);
   };
   emitted = refl;
-  arrives = packet6 false whole.read.head whole_payload_over_six whole.read.content refl refl (udp6 whole.read.head whole_payload_over_six refl);
+  arrives = packet6 false whole.read.head whole_payload_over_six whole.read.content refl refl
+      (udp6 whole.read.head whole_payload_over_six refl);
   answered = whole_answered;
   rules = rules_are home bindings [];
   fits = omega arith;
@@ -126,7 +127,10 @@ first = record {
       96 ∷ 0 ∷ 0 ∷ 0 ∷ 0 ∷ 24 ∷ 44 ∷ 59 ∷ 32 ∷ 1 ∷ 13 ∷ 184 ∷ 255 ∷ 255 ∷ 0 ∷ 0 ∷ 0 ∷ 198 ∷ 51 ∷ 100 ∷ 7 ∷ 0 ∷ 0 ∷ 0 ∷ 32 ∷ 1
       ∷ 13 ∷ 184 ∷ 0 ∷ 18 ∷ 52 ∷ 0 ∷ 0 ∷ 0 ∷ 192 ∷ 0 ∷ 2 ∷ 18 ∷ 0 ∷ 52 ∷ 17 ∷ 0 ∷ 0 ∷ 1 ∷ 0 ∷ 0 ∷ 0 ∷ 33 ∷ 0 ∷ 53 ∷ 4 ∷ 208 ∷ 0
       ∷ 24 ∷ 42 ∷ 121 ∷ 97 ∷ 98 ∷ 99 ∷ 100 ∷ 101 ∷ 102 ∷ 103 ∷ 104 ∷ [];
-  read = record { head = head6 59 server6 home6 17 16 (Some (record { offset = 0; more = true; id = 33 })); content = Segment6 Udp (l4_of Udp first_payload_over_six) };
+  read = record {
+    head = head6 59 server6 home6 17 16 (Some (record { offset = 0; more = true; id = 33 }));
+    content = Segment6 Udp (l4_of Udp first_payload_over_six);
+  };
   four =
       69 ∷ 0 ∷ 0 ∷ 36 ∷ 0 ∷ 33 ∷ 32 ∷ 0 ∷ 58 ∷ 17 ∷ 116 ∷ 187 ∷ 198 ∷ 51 ∷ 100 ∷ 7 ∷ 192 ∷ 168 ∷ 1 ∷ 10 ∷ 0 ∷ 53 ∷ 19 ∷ 136 ∷ 0
       ∷ 24 ∷ 188 ∷ 200 ∷ 97 ∷ 98 ∷ 99 ∷ 100 ∷ 101 ∷ 102 ∷ 103 ∷ 104 ∷ [];
@@ -193,7 +197,8 @@ a_first_fragment = record {
     is = (omega arith, refl, omega arith);
   };
   emitted = refl;
-  arrives = packet6 false first.read.head first_payload_over_six first.read.content refl refl (udp6 first.read.head first_payload_over_six refl);
+  arrives = packet6 false first.read.head first_payload_over_six first.read.content refl refl
+      (udp6 first.read.head first_payload_over_six refl);
   answered = first_answered;
   rules = rules_are home bindings waiting;
   fits = omega arith;
@@ -317,7 +322,15 @@ echo_answered = record {
 pub an_echo_reply : FromRelay setting (relay_in 7) (at_home []) (comes_in []) echo
 unfolding embedded
 an_echo_reply = record {
-  taken = taken4 echo.taken.head echo_payload echo.taken.content refl refl (record { protocol = refl; whole = refl; message = record { stands = omega arith; kind = refl; code = refl; rest = refl; body = refl; right = refl }; found = refl }, refl);
+  taken = taken4 echo.taken.head echo_payload echo.taken.content refl refl (
+    record {
+      protocol = refl;
+      whole = refl;
+      message = record { stands = omega arith; kind = refl; code = refl; rest = refl; body = refl; right = refl };
+      found = refl;
+    },
+    refl,
+  );
   relay_is = relay_is 7;
   relay_fits = relay_fits;
   sent = record {
@@ -328,7 +341,22 @@ an_echo_reply = record {
     is = (omega arith, refl, omega arith);
   };
   emitted = refl;
-  arrives = packet6 false echo.read.head echo_payload_over_six echo.read.content refl refl (record { protocol = refl; whole = whole6 echo.read.head refl refl; message = record { stands = omega arith; kind = refl; code = refl; rest = refl; body = refl; right = refl }; found = refl }, refl);
+  arrives = packet6 false echo.read.head echo_payload_over_six echo.read.content refl refl (
+    record {
+      protocol = refl;
+      whole = whole6 echo.read.head refl refl;
+      message = record {
+        stands = omega arith;
+        kind = refl;
+        code = refl;
+        rest = refl;
+        body = refl;
+        right = refl;
+      };
+      found = refl;
+    },
+    refl,
+  );
   answered = echo_answered;
   rules = rules_are home bindings [];
   fits = omega arith;
@@ -360,7 +388,12 @@ error_inner_over_six =
 
 abbrev error_embedded : Inner4
 error_embedded =
-    record { head = record (head4 62 shared server 17 10) { id = 3 }; payload = error_inner; ports = (l4_of Udp error_inner).ports; proto = Udp }
+    record {
+      head = record (head4 62 shared server 17 10) { id = 3 };
+      payload = error_inner;
+      ports = (l4_of Udp error_inner).ports;
+      proto = Udp;
+    }
 
 abbrev error_embedded_over_six : Inner6
 error_embedded_over_six = record {
@@ -378,7 +411,10 @@ error_message_over_six = record { kind = 3; code = 0; rest = 0; body = drop 8 er
 
 abbrev error : Passed
 error = record {
-  taken = record { head = record (head4 250 router shared 1 38) { id = 9 }; content = Error4 error_message (row 11 0 3 0 Zero) error_embedded };
+  taken = record {
+    head = record (head4 250 router shared 1 38) { id = 9 };
+    content = Error4 error_message (row 11 0 3 0 Zero) error_embedded;
+  };
   octets =
       69 ∷ 0 ∷ 0 ∷ 58 ∷ 0 ∷ 9 ∷ 0 ∷ 0 ∷ 250 ∷ 1 ∷ 212 ∷ 106 ∷ 198 ∷ 51 ∷ 100 ∷ 9 ∷ 192 ∷ 0 ∷ 2 ∷ 18 ∷ 11 ∷ 0 ∷ 225 ∷ 104 ∷ 0 ∷ 0
       ∷ 0 ∷ 0 ∷ 69 ∷ 0 ∷ 0 ∷ 30 ∷ 0 ∷ 3 ∷ 0 ∷ 0 ∷ 62 ∷ 17 ∷ 144 ∷ 127 ∷ 192 ∷ 0 ∷ 2 ∷ 18 ∷ 198 ∷ 51 ∷ 100 ∷ 7 ∷ 4 ∷ 208 ∷ 0 ∷ 53
@@ -394,7 +430,10 @@ error = record {
       ∷ 13 ∷ 184 ∷ 0 ∷ 18 ∷ 52 ∷ 0 ∷ 0 ∷ 0 ∷ 192 ∷ 0 ∷ 2 ∷ 18 ∷ 0 ∷ 52 ∷ 3 ∷ 0 ∷ 252 ∷ 104 ∷ 0 ∷ 0 ∷ 0 ∷ 0 ∷ 96 ∷ 0 ∷ 0 ∷ 0 ∷ 0
       ∷ 10 ∷ 17 ∷ 62 ∷ 32 ∷ 1 ∷ 13 ∷ 184 ∷ 0 ∷ 18 ∷ 52 ∷ 0 ∷ 0 ∷ 0 ∷ 192 ∷ 0 ∷ 2 ∷ 18 ∷ 0 ∷ 52 ∷ 32 ∷ 1 ∷ 13 ∷ 184 ∷ 255 ∷ 255
       ∷ 0 ∷ 0 ∷ 0 ∷ 198 ∷ 51 ∷ 100 ∷ 7 ∷ 0 ∷ 0 ∷ 0 ∷ 4 ∷ 208 ∷ 0 ∷ 53 ∷ 0 ∷ 10 ∷ 5 ∷ 119 ∷ 104 ∷ 105 ∷ [];
-  read = record { head = head6 249 router6 home6 58 58 None; content = Error6 error_message_over_six (row 3 0 11 0 Zero) error_embedded_over_six };
+  read = record {
+    head = head6 249 router6 home6 58 58 None;
+    content = Error6 error_message_over_six (row 3 0 11 0 Zero) error_embedded_over_six;
+  };
   four =
       69 ∷ 0 ∷ 0 ∷ 58 ∷ 0 ∷ 7 ∷ 0 ∷ 0 ∷ 248 ∷ 1 ∷ 214 ∷ 204 ∷ 198 ∷ 51 ∷ 100 ∷ 9 ∷ 192 ∷ 168 ∷ 1 ∷ 10 ∷ 11 ∷ 0 ∷ 225 ∷ 8 ∷ 0 ∷ 0
       ∷ 0 ∷ 0 ∷ 69 ∷ 0 ∷ 0 ∷ 30 ∷ 0 ∷ 0 ∷ 0 ∷ 0 ∷ 62 ∷ 17 ∷ 144 ∷ 226 ∷ 192 ∷ 168 ∷ 1 ∷ 10 ∷ 198 ∷ 51 ∷ 100 ∷ 7 ∷ 19 ∷ 136 ∷ 0
@@ -418,7 +457,19 @@ pub an_error : FromRelay setting (relay_in 7) (at_home []) (In host 5000 router 
 unfolding embedded chain_in
 an_error = record {
   taken = taken4 error.taken.head error_payload error.taken.content refl refl (record {
-    message = record { protocol = refl; whole = refl; message = record { stands = omega arith; kind = refl; code = refl; rest = refl; body = refl; right = refl }; found = refl };
+    message = record {
+      protocol = refl;
+      whole = refl;
+      message = record {
+        stands = omega arith;
+        kind = refl;
+        code = refl;
+        rest = refl;
+        body = refl;
+        right = refl;
+      };
+      found = refl;
+    };
     error = record { found = refl; translated = λ none. let e : Zero ≡ Pointer = none.0 in cc; no_query = λ e. cc };
     embedded = inner4 error_embedded.head error_inner refl refl;
     answers = refl;
@@ -434,7 +485,19 @@ an_error = record {
   };
   emitted = refl;
   arrives = packet6 false error.read.head error_payload_over_six error.read.content refl refl (record {
-    message = record { protocol = refl; whole = whole6 error.read.head refl refl; message = record { stands = omega arith; kind = refl; code = refl; rest = refl; body = refl; right = refl }; found = refl };
+    message = record {
+      protocol = refl;
+      whole = whole6 error.read.head refl refl;
+      message = record {
+        stands = omega arith;
+        kind = refl;
+        code = refl;
+        rest = refl;
+        body = refl;
+        right = refl;
+      };
+      found = refl;
+    };
     error = record { found = refl; translated = λ none. let e : Zero ≡ Pointer = none.0 in cc; no_query = λ e. cc };
     embedded = inner6 error_embedded_over_six.head error_inner_over_six refl refl refl;
     answers = record { back = refl; from_end = λ relay. absurd (false≢true relay) };

@@ -87,8 +87,20 @@ out_sent_as = packet_from shared 1232 out_taken
 
 abbrev out_arrived : List Arrived
 out_arrived =
-    record { replaced = out_sent_as; octets = written4 (record (head4 62 shared server 17 1232) { id = 21; mf = true }) out_arrived_payload }
-    ∷ record { replaced = out_sent_as; octets = written4 (record (head4 62 shared server 17 16) { id = 21; offset = 154 }) (replicate 16 0) }
+    record {
+      replaced = out_sent_as;
+      octets = written4 (record (head4 62 shared server 17 1232) {
+        id = 21;
+        mf = true;
+      }) out_arrived_payload;
+    }
+    ∷ record {
+      replaced = out_sent_as;
+      octets = written4 (record (head4 62 shared server 17 16) {
+        id = 21;
+        offset = 154;
+      }) (replicate 16 0);
+    }
     ∷ []
 
 abbrev out_passed : PassedInPieces
@@ -113,7 +125,16 @@ pieces_to_the_relay = record {
   rules = rules_are home bindings [];
   fits = (omega arith, omega arith, omega arith);
   replaced = refl;
-  sent = (omega arith, (written6 out_head out_payload_over_six, refl, omega arith, refl, (out_head, out_payload_over_six, form6 out_head out_payload_over_six refl refl, out_cut)));
+  sent = (
+    omega arith,
+    (
+      written6 out_head out_payload_over_six,
+      refl,
+      omega arith,
+      refl,
+      (out_head, out_payload_over_six, form6 out_head out_payload_over_six refl refl, out_cut),
+    ),
+  );
   received = (
     record {
       relay = relay_in 7;
@@ -206,8 +227,20 @@ in_arrived_payload = 0 ∷ 53 ∷ 19 ∷ 136 ∷ 4 ∷ 224 ∷ 246 ∷ 131 ∷ r
 
 abbrev in_arrived : List Arrived
 in_arrived =
-    record { replaced = packet_to host 5000 in_taken; octets = written4 (record (head4 58 server host 17 1232) { id = 33; mf = true }) in_arrived_payload }
-    ∷ record { replaced = packet_to other_host 5001 in_taken; octets = written4 (record (head4 58 server other_host 17 16) { id = 33; offset = 154 }) (replicate 16 0) }
+    record {
+      replaced = packet_to host 5000 in_taken;
+      octets = written4 (record (head4 58 server host 17 1232) {
+        id = 33;
+        mf = true;
+      }) in_arrived_payload;
+    }
+    ∷ record {
+      replaced = packet_to other_host 5001 in_taken;
+      octets = written4 (record (head4 58 server other_host 17 16) {
+        id = 33;
+        offset = 154;
+      }) (replicate 16 0);
+    }
     ∷ []
 
 abbrev in_passed : PassedInPieces
@@ -256,7 +289,16 @@ pieces_from_the_relay = record {
     flow = λ first. refl;
     own = home6;
     owned = home_is_the_owner;
-    is = (omega arith, (written6 in_head in_payload_over_six, refl, omega arith, refl, (in_head, in_payload_over_six, form6 in_head in_payload_over_six refl refl, in_cut)));
+    is = (
+      omega arith,
+      (
+        written6 in_head in_payload_over_six,
+        refl,
+        omega arith,
+        refl,
+        (in_head, in_payload_over_six, form6 in_head in_payload_over_six refl refl, in_cut),
+      ),
+    );
   };
   received = (
     record {
@@ -340,8 +382,20 @@ over_sent_as = packet_from shared 1232 over_taken
 
 abbrev over_arrived : List Arrived
 over_arrived =
-    record { replaced = packet_to other_host 8080 over_sent_as; octets = written4 (record (head4 62 shared other_host 17 1232) { id = 21; mf = true }) over_arrived_payload }
-    ∷ record { replaced = packet_to other_host 8080 over_sent_as; octets = written4 (record (head4 62 shared other_host 17 16) { id = 21; offset = 154 }) (replicate 16 0) }
+    record {
+      replaced = packet_to other_host 8080 over_sent_as;
+      octets = written4 (record (head4 62 shared other_host 17 1232) {
+        id = 21;
+        mf = true;
+      }) over_arrived_payload;
+    }
+    ∷ record {
+      replaced = packet_to other_host 8080 over_sent_as;
+      octets = written4 (record (head4 62 shared other_host 17 16) {
+        id = 21;
+        offset = 154;
+      }) (replicate 16 0);
+    }
     ∷ []
 
 abbrev over_passed : PassedInPieces
@@ -391,21 +445,34 @@ second_comes_over = record {
   is = refl;
 }
 
-pub pieces_between_edges : PiecesBetweenEdges setting (record { step = at_home []; answer = Out shared 1232 home6 other6 [] }) over_sent_as over_passed
+pub pieces_between_edges : PiecesBetweenEdges setting (record {
+  step = at_home [];
+  answer = Out shared 1232 home6 other6 [];
+}) over_sent_as over_passed
 pieces_between_edges = record {
   taken = taken4 over_taken.head over_payload over_taken.content refl refl (udp4 over_taken.head over_payload refl);
   answered = over_goes;
   rules = rules_are home bindings [];
   fits = (omega arith, omega arith, omega arith);
   replaced = refl;
-  sent = (omega arith, (written6 over_head over_payload_over_six, refl, omega arith, refl, (over_head, over_payload_over_six, form6 over_head over_payload_over_six refl refl, over_cut)));
+  sent = (
+    omega arith,
+    (
+      written6 over_head over_payload_over_six,
+      refl,
+      omega arith,
+      refl,
+      (over_head, over_payload_over_six, form6 over_head over_payload_over_six refl refl, over_cut),
+    ),
+  );
   received = (
     record {
       edge = record { step = at_other []; answer = In other_host 8080 shared shared [] };
       rules = rules_are other other_bindings [];
       fits = omega arith;
       read = over_first;
-      arrives = packet6 false over_first.head over_first_payload over_first.content refl refl (udp6 over_first.head over_first_payload refl);
+      arrives = packet6 false over_first.head over_first_payload over_first.content refl refl
+          (udp6 over_first.head over_first_payload refl);
       answered = first_comes_over;
       id = 7;
       received = (omega arith, refl, omega arith);

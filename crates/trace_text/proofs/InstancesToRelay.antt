@@ -85,7 +85,8 @@ a_whole_packet = record {
   fits = (omega arith, omega arith, omega arith);
   sent = (omega arith, refl, omega arith);
   emitted = refl;
-  arrives = packet6 true whole.read.head whole_payload_over_six whole.read.content refl refl (udp6 whole.read.head whole_payload_over_six refl);
+  arrives = packet6 true whole.read.head whole_payload_over_six whole.read.content refl refl
+      (udp6 whole.read.head whole_payload_over_six refl);
   relay_is = relay_is 7;
   numbered = λ none. refl;
   received = record {
@@ -124,7 +125,10 @@ first = record {
       96 ∷ 0 ∷ 0 ∷ 0 ∷ 0 ∷ 24 ∷ 44 ∷ 63 ∷ 32 ∷ 1 ∷ 13 ∷ 184 ∷ 0 ∷ 18 ∷ 52 ∷ 0 ∷ 0 ∷ 0 ∷ 192 ∷ 0 ∷ 2 ∷ 18 ∷ 0 ∷ 52 ∷ 32 ∷ 1 ∷ 13
       ∷ 184 ∷ 255 ∷ 255 ∷ 0 ∷ 0 ∷ 0 ∷ 198 ∷ 51 ∷ 100 ∷ 7 ∷ 0 ∷ 0 ∷ 0 ∷ 17 ∷ 0 ∷ 0 ∷ 1 ∷ 0 ∷ 0 ∷ 0 ∷ 21 ∷ 4 ∷ 208 ∷ 0 ∷ 53 ∷ 0
       ∷ 24 ∷ 42 ∷ 121 ∷ 97 ∷ 98 ∷ 99 ∷ 100 ∷ 101 ∷ 102 ∷ 103 ∷ 104 ∷ [];
-  read = record { head = head6 63 home6 server6 17 16 (Some (record { offset = 0; more = true; id = 21 })); content = Segment6 Udp (l4_of Udp first_payload_over_six) };
+  read = record {
+    head = head6 63 home6 server6 17 16 (Some (record { offset = 0; more = true; id = 21 }));
+    content = Segment6 Udp (l4_of Udp first_payload_over_six);
+  };
   four =
       69 ∷ 0 ∷ 0 ∷ 36 ∷ 0 ∷ 21 ∷ 32 ∷ 0 ∷ 62 ∷ 17 ∷ 112 ∷ 103 ∷ 192 ∷ 0 ∷ 2 ∷ 18 ∷ 198 ∷ 51 ∷ 100 ∷ 7 ∷ 4 ∷ 208 ∷ 0 ∷ 53 ∷ 0
       ∷ 24 ∷ 203 ∷ 32 ∷ 97 ∷ 98 ∷ 99 ∷ 100 ∷ 101 ∷ 102 ∷ 103 ∷ 104 ∷ [];
@@ -184,7 +188,8 @@ a_first_fragment = record {
   fits = (omega arith, omega arith, omega arith);
   sent = (omega arith, refl, omega arith);
   emitted = refl;
-  arrives = packet6 true first.read.head first_payload_over_six first.read.content refl refl (udp6 first.read.head first_payload_over_six refl);
+  arrives = packet6 true first.read.head first_payload_over_six first.read.content refl refl
+      (udp6 first.read.head first_payload_over_six refl);
   relay_is = relay_is 7;
   numbered = λ none. absurd cc;
   received = record {
@@ -308,13 +313,36 @@ echo_answered = record {
 
 pub an_echo_request : ToRelay setting (at_home []) (goes_out []) (relay_in 7) echo
 an_echo_request = record {
-  taken = taken4 echo.taken.head echo_payload echo.taken.content refl refl (record { protocol = refl; whole = refl; message = record { stands = omega arith; kind = refl; code = refl; rest = refl; body = refl; right = refl }; found = refl }, refl);
+  taken = taken4 echo.taken.head echo_payload echo.taken.content refl refl (
+    record {
+      protocol = refl;
+      whole = refl;
+      message = record { stands = omega arith; kind = refl; code = refl; rest = refl; body = refl; right = refl };
+      found = refl;
+    },
+    refl,
+  );
   answered = echo_answered;
   rules = rules_are home bindings [];
   fits = (omega arith, omega arith, omega arith);
   sent = (omega arith, refl, omega arith);
   emitted = refl;
-  arrives = packet6 true echo.read.head echo_payload_over_six echo.read.content refl refl (record { protocol = refl; whole = whole6 echo.read.head refl refl; message = record { stands = omega arith; kind = refl; code = refl; rest = refl; body = refl; right = refl }; found = refl }, refl);
+  arrives = packet6 true echo.read.head echo_payload_over_six echo.read.content refl refl (
+    record {
+      protocol = refl;
+      whole = whole6 echo.read.head refl refl;
+      message = record {
+        stands = omega arith;
+        kind = refl;
+        code = refl;
+        rest = refl;
+        body = refl;
+        right = refl;
+      };
+      found = refl;
+    },
+    refl,
+  );
   relay_is = relay_is 7;
   numbered = λ none. refl;
   received = record {
@@ -351,7 +379,12 @@ error_inner_over_six =
 
 abbrev error_embedded : Inner4
 error_embedded =
-    record { head = record (head4 60 server host 17 10) { id = 9 }; payload = error_inner; ports = (l4_of Udp error_inner).ports; proto = Udp }
+    record {
+      head = record (head4 60 server host 17 10) { id = 9 };
+      payload = error_inner;
+      ports = (l4_of Udp error_inner).ports;
+      proto = Udp;
+    }
 
 abbrev error_embedded_over_six : Inner6
 error_embedded_over_six = record {
@@ -385,7 +418,10 @@ error = record {
       ∷ 184 ∷ 255 ∷ 255 ∷ 0 ∷ 0 ∷ 0 ∷ 198 ∷ 51 ∷ 100 ∷ 7 ∷ 0 ∷ 0 ∷ 0 ∷ 1 ∷ 4 ∷ 0 ∷ 103 ∷ 0 ∷ 0 ∷ 0 ∷ 0 ∷ 96 ∷ 0 ∷ 0 ∷ 0 ∷ 0 ∷ 10
       ∷ 17 ∷ 60 ∷ 32 ∷ 1 ∷ 13 ∷ 184 ∷ 255 ∷ 255 ∷ 0 ∷ 0 ∷ 0 ∷ 198 ∷ 51 ∷ 100 ∷ 7 ∷ 0 ∷ 0 ∷ 0 ∷ 32 ∷ 1 ∷ 13 ∷ 184 ∷ 0 ∷ 18 ∷ 52
       ∷ 0 ∷ 0 ∷ 0 ∷ 192 ∷ 0 ∷ 2 ∷ 18 ∷ 0 ∷ 52 ∷ 0 ∷ 53 ∷ 4 ∷ 208 ∷ 0 ∷ 10 ∷ 5 ∷ 119 ∷ 104 ∷ 105 ∷ [];
-  read = record { head = head6 63 home6 server6 58 58 None; content = Error6 error_message_over_six (row 1 4 3 3 Zero) error_embedded_over_six };
+  read = record {
+    head = head6 63 home6 server6 58 58 None;
+    content = Error6 error_message_over_six (row 1 4 3 3 Zero) error_embedded_over_six;
+  };
   four =
       69 ∷ 0 ∷ 0 ∷ 58 ∷ 0 ∷ 7 ∷ 0 ∷ 0 ∷ 62 ∷ 1 ∷ 144 ∷ 111 ∷ 192 ∷ 0 ∷ 2 ∷ 18 ∷ 198 ∷ 51 ∷ 100 ∷ 7 ∷ 3 ∷ 3 ∷ 233 ∷ 101 ∷ 0 ∷ 0
       ∷ 0 ∷ 0 ∷ 69 ∷ 0 ∷ 0 ∷ 30 ∷ 0 ∷ 0 ∷ 0 ∷ 0 ∷ 60 ∷ 17 ∷ 146 ∷ 130 ∷ 198 ∷ 51 ∷ 100 ∷ 7 ∷ 192 ∷ 0 ∷ 2 ∷ 18 ∷ 0 ∷ 53 ∷ 4 ∷ 208
@@ -408,7 +444,19 @@ pub an_error : ToRelay setting (at_home []) (goes_out []) (relay_in 7) error
 unfolding chain_in
 an_error = record {
   taken = taken4 error.taken.head error_payload error.taken.content refl refl (record {
-    message = record { protocol = refl; whole = refl; message = record { stands = omega arith; kind = refl; code = refl; rest = refl; body = refl; right = refl }; found = refl };
+    message = record {
+      protocol = refl;
+      whole = refl;
+      message = record {
+        stands = omega arith;
+        kind = refl;
+        code = refl;
+        rest = refl;
+        body = refl;
+        right = refl;
+      };
+      found = refl;
+    };
     error = record { found = refl; translated = λ none. let e : Zero ≡ Pointer = none.0 in cc; no_query = λ e. cc };
     embedded = inner4 error_embedded.head error_inner refl refl;
     answers = refl;
@@ -419,7 +467,19 @@ an_error = record {
   sent = (omega arith, refl, omega arith);
   emitted = refl;
   arrives = packet6 true error.read.head error_payload_over_six error.read.content refl refl (record {
-    message = record { protocol = refl; whole = whole6 error.read.head refl refl; message = record { stands = omega arith; kind = refl; code = refl; rest = refl; body = refl; right = refl }; found = refl };
+    message = record {
+      protocol = refl;
+      whole = whole6 error.read.head refl refl;
+      message = record {
+        stands = omega arith;
+        kind = refl;
+        code = refl;
+        rest = refl;
+        body = refl;
+        right = refl;
+      };
+      found = refl;
+    };
     error = record { found = refl; translated = λ none. let e : Zero ≡ Pointer = none.0 in cc; no_query = λ e. cc };
     embedded = inner6 error_embedded_over_six.head error_inner_over_six refl refl refl;
     answers = record { back = refl; from_end = λ relay. refl };

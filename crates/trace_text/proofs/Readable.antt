@@ -69,7 +69,8 @@ octet_at x xs small all (suc k) = all k
 
 pub are_octets : (xs : List ℕ) → all_octets xs ≡ true → AreOctets xs
 are_octets [] all = λ k. omega arith
-are_octets (x ∷ xs) all = let both = parts (nat_lt x 256) (all_octets xs) all in octet_at x xs (ltb-true x 256 both.0) (are_octets xs both.1)
+are_octets (x ∷ xs) all = let both = parts (nat_lt x 256) (all_octets xs) all in octet_at x xs (ltb-true x 256 both.0)
+    (are_octets xs both.1)
 
 -- the fields of a fragment agree
 fine_fragment : (offset : ℕ) (more : Bool) (len : ℕ) → offset * 8 + len < 65536 → (not more || (len % 8 == 0)) ≡ true
@@ -106,15 +107,21 @@ no_destination4 addr group all none (inr (inr e)) = none e
 abbrev pub is_sound4 : Head4 → List ℕ → Bool
 is_sound4 h payload = all_true (tests4 h payload)
 
-pub written_reads4 : (h : Head4) (payload : List ℕ) → is_sound4 h payload ≡ true → Is4 h payload (written4 h payload) × HasNoHeaderCause4 (written4 h payload)
+pub written_reads4 : (h : Head4) (payload : List ℕ) → is_sound4 h payload ≡ true
+    → Is4 h payload (written4 h payload) × HasNoHeaderCause4 (written4 h payload)
 written_reads4 h payload sound =
-    let (total, (bare, (unrouted, (total_fits, (id, (src, (dst, (low, (fits, (units, (group, (broadcast, (none, _))))))))))))) = each (tests4 h payload) sound in
+    let (total, (bare, (unrouted, (total_fits, (id, (src, (dst, (low, (fits, (units, (group, (broadcast, (none, _))))))))))))) =
+    each (tests4 h payload) sound in
     written_again4 h payload
     (record { total = ltb-true _ _ total_fits; id = ltb-true _ _ id; src = ltb-true _ _ src; dst = ltb-true _ _ dst })
     (eqb-true _ _ bare)
     (not_true _ unrouted)
-    (ltb-true _ _ low)
-    (eqb-true _ _ total, fine_fragment h.offset h.mf (length payload) (ltb-true _ _ fits) units, no_destination4 h.dst.0 (differ _ _ group) (differ _ _ broadcast) (differ _ _ none))
+    (ltb-true _ _ low) (
+      eqb-true _ _ total,
+      fine_fragment h.offset h.mf (length payload) (ltb-true _ _ fits) units,
+      no_destination4 h.dst.0
+          (differ _ _ group) (differ _ _ broadcast) (differ _ _ none),
+    )
 
 unrouted4 : (h : Head4) (payload : List ℕ) → is_sound4 h payload ≡ true → h.routed ≡ false
 unrouted4 h payload sound = not_true _ (each (tests4 h payload) sound).1.1.0
@@ -189,7 +196,8 @@ is_sound6 h payload = all_true (head_tests6 h payload) && all_true (frag_tests h
 pub form6 : (h : Head6) (payload : List ℕ) → h.left ≡ None → is_sound6 h payload ≡ true → IsCuttable h payload (written6 h payload)
 form6 h payload unrouted sound =
     let both = parts (all_true (head_tests6 h payload)) (all_true (frag_tests h.frag h.start (length payload))) sound in
-    let (len, (options, (routing, (fragment, (destination, (class, (len_fits, (src, (dst, _))))))))) = each (head_tests6 h payload) both.0 in
+    let (len, (options, (routing, (fragment, (destination, (class, (len_fits, (src, (dst, _))))))))) = each
+    (head_tests6 h payload) both.0 in
     let frag : AreTrue (frag_tests h.frag h.start (length payload)) = each (frag_tests h.frag h.start (length payload)) both.1 in
     let exact : h.length ≡ length payload = eqb-true _ _ len in
     record {
@@ -198,7 +206,12 @@ form6 h payload unrouted sound =
         unrouted = unrouted;
         upper = (differ _ _ options, differ _ _ routing, differ _ _ fragment, differ _ _ destination);
         placed = subst (λ (n : ℕ). IsPlaced h.start n h.frag) (sym exact) (placed6 h.frag h.start (length payload) frag);
-        in_range = record { class = ltb-true _ _ class; length_fits = ltb-true _ _ len_fits; src = ltb-true _ _ src; dst = ltb-true _ _ dst };
+        in_range = record {
+          class = ltb-true _ _ class;
+          length_fits = ltb-true _ _ len_fits;
+          src = ltb-true _ _ src;
+          dst = ltb-true _ _ dst;
+        };
         frag_in_range = frag_fits6 h.frag h.start (length payload) frag;
         written = refl;
       };
@@ -215,10 +228,12 @@ pub written_reads6 : (h : Head6) (payload : List ℕ) → h.left ≡ None → is
     → Is6 h payload (written6 h payload) × HasNoHeaderCause6 (written6 h payload)
 written_reads6 h payload unrouted sound =
     let cuttable = form6 h payload unrouted sound in
-    let agreed : IsWrongFrag6 h.frag (length payload) → ⊥ = subst (λ (n : ℕ). IsWrongFrag6 h.frag n → ⊥) cuttable.form.exact cuttable.agreed in
+    let agreed : IsWrongFrag6 h.frag (length payload) → ⊥ = subst (λ (n : ℕ). IsWrongFrag6 h.frag n
+    → ⊥) cuttable.form.exact cuttable.agreed in
     written_again6 h payload (written6 h payload) cuttable.form (cuttable.form.exact, agreed, has_destination6 h payload sound)
 
-pub packet6 : (at_relay : Bool) (h : Head6) (payload : List ℕ) (content : Content6) → h.left ≡ None → is_sound6 h payload ≡ true → IsContent6 at_relay h payload content
+pub packet6 : (at_relay : Bool) (h : Head6) (payload : List ℕ) (content : Content6) → h.left ≡ None → is_sound6 h payload ≡ true
+    → IsContent6 at_relay h payload content
     → IsPacket6 at_relay (record { head = h; content = content }) (written6 h payload)
 packet6 at_relay h payload content unrouted sound is =
     let reads = written_reads6 h payload unrouted sound in
@@ -231,7 +246,8 @@ packet6 at_relay h payload content unrouted sound is =
 
 -- ---- UDP: a whole packet or a first fragment that has a sum, and a later fragment
 
-fine_udp : (payload : List ℕ) (more : Bool) → 7 < length payload → (more || (word payload 4 == length payload)) ≡ true → IsBadTransport Udp payload (not more) → ⊥
+fine_udp : (payload : List ℕ) (more : Bool) → 7 < length payload → (more || (word payload 4 == length payload)) ≡ true
+    → IsBadTransport Udp payload (not more) → ⊥
 fine_udp payload more long agree (inl short) = absurd (omega arith)
 fine_udp payload true long agree (inr bad) = absurd (let e : false ≡ true = bad.0 in cc)
 fine_udp payload false long agree (inr bad) = bad.1 (eqb-true (word payload 4) (length payload) agree)
@@ -265,7 +281,8 @@ is_udp6 h payload = all_true (udp_tests h.upper (fragment_offset h.frag) (more_f
 
 pub udp6 : (h : Head6) (payload : List ℕ) → is_udp6 h payload ≡ true → IsSegment6 h payload Udp (l4_of Udp payload)
 udp6 h payload t =
-    let (upper, (first, (long, (agree, (summed, _))))) = each (udp_tests h.upper (fragment_offset h.frag) (more_fragments h.frag) payload) t in
+    let (upper, (first, (long, (agree, (summed, _))))) = each (udp_tests h.upper (fragment_offset h.frag)
+    (more_fragments h.frag) payload) t in
     record {
       protocol = ap proto6 (eqb-true h.upper 17 upper);
       no_icmp = λ e. cc;
@@ -300,7 +317,12 @@ inner4 h payload sound t =
     let (is, _) = written_reads4 h payload sound in
     let stands : 7 < length payload = ltb-true _ _ long in
     record {
-      header = record { fields = is.fields; least = is.head_fits; stands = omega (arith, is.total_fits, is.whole); unrouted = unrouted4 h payload sound };
+      header = record {
+        fields = is.fields;
+        least = is.head_fits;
+        stands = omega (arith, is.total_fits, is.whole);
+        unrouted = unrouted4 h payload sound;
+      };
       payload = is.payload_is;
       stands = omega arith;
       first = eqb-true _ _ first;

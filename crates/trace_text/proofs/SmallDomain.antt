@@ -43,7 +43,10 @@ rule = record {
 }
 
 abbrev pub default : Dmr
-default = record { prefix = record { bits = 0x2001_0db8_ffff_0000_0000_0000_0000_0000; len = 64; within = omega arith; clear = refl }; valid = refl }
+default = record {
+  prefix = record { bits = 0x2001_0db8_ffff_0000_0000_0000_0000_0000; len = 64; within = omega arith; clear = refl };
+  valid = refl;
+}
 
 abbrev pub book : Generation
 book = record { rules = rule ∷ []; dmr = default; number = 0 }
@@ -113,7 +116,12 @@ head6 hop src dst upper len frag =
 -- ---- the relay, in the hop of record 7, and in that of record 8, in which it sends what waited there
 
 abbrev pub relay_in : ℕ → Relay
-relay_in number = record { rules = rule ∷ []; dmr = default; params = record { relay4 = record { 0 = 0xc633_6401 }; mtus = mtus }; id = number }
+relay_in number = record {
+  rules = rule ∷ [];
+  dmr = default;
+  params = record { relay4 = record { 0 = 0xc633_6401 }; mtus = mtus };
+  id = number;
+}
 
 abbrev pub relay : Relay
 relay = relay_in 7
@@ -122,7 +130,10 @@ pub relay_is : (number : ℕ) → IsRelayOf setting (relay_in number)
 relay_is number = record { dmr = refl; mtus = refl }
 
 pub relay_fits : FitBook (rule ∷ []) default
-relay_fits = record { each = All-cons FitsRule rule [] (record { prefix4 = omega arith; prefix6 = omega arith }) (All-nil FitsRule); default = omega arith }
+relay_fits = record {
+  each = All-cons FitsRule rule [] (record { prefix4 = omega arith; prefix6 = omega arith }) (All-nil FitsRule);
+  default = omega arith;
+}
 
 pub home_is_a_source : source_addr relay home6 1232 ≡ Some shared
 unfolding source_of rule_address
@@ -174,10 +185,12 @@ valid = record {
   few = omega arith;
   apart4 = λ i j d before within. absurd (omega arith);
   apart6 = λ i j d before within. absurd (omega arith);
-  apart_dmr = All-cons (λ r. ¬ Overlaps6 r.prefix6 default.prefix) rule [] (λ e. absurd (false≢true e)) (All-nil (λ r. ¬ Overlaps6 r.prefix6 default.prefix));
+  apart_dmr = All-cons (λ r. ¬ Overlaps6 r.prefix6 default.prefix) rule [] (λ e. absurd (false≢true e)) (All-nil
+      (λ r. ¬ Overlaps6 r.prefix6 default.prefix));
 }
 
-pub rules_are : (prefix : Prefix6) (bindings : List Binding) (notes : List Note) → AreRulesOf default (rules_of_step (step_of prefix bindings notes))
+pub rules_are : (prefix : Prefix6) (bindings : List Binding) (notes : List Note)
+    → AreRulesOf default (rules_of_step (step_of prefix bindings notes))
 unfolding renewed
 rules_are prefix bindings notes = record {
   fixed = refl;
