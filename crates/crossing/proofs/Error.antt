@@ -1,5 +1,5 @@
 -- ICMP errors, there and back.
-use Rattle.std.proofs.Common.{◌≡◌, ◌≢◌, ◌⊎◌, ℕ, ◌+◌, ◌*◌, ◌-◌, ◌/◌, ◌%◌, ◌^◌, ◌<◌, ◌≤◌, Bool, true, false, cond, not, ◌||◌, ◌&&◌, List, length, take, min, Option, Some, None, inl, inr, refl, sym, ap, ◌∙◌, subst, arith}
+use Rattle.std.proofs.Common.{◌≡◌, ◌≢◌, ℕ, ◌+◌, ◌*◌, ◌-◌, ◌/◌, ◌%◌, ◌^◌, ◌<◌, ◌≤◌, Bool, true, false, cond, not, ◌&&◌, List, length, take, min, Option, Some, None, refl, sym, ap, ◌∙◌, subst, arith}
 use Rattle.std.specs.Prelude.{nat_le, is_some, option_and_then}
 use Rattle.std.specs.Option.{option_map}
 use Rattle.std.proofs.lemmas.List.{length-take}
@@ -16,7 +16,6 @@ use Rattle.ip6_packet.specs.declared.head.Head6.{Head6}
 use Rattle.ip6_packet.specs.declared.head.Frag6.{Frag6}
 use Rattle.ip6_packet.specs.Written.{written6}
 use Rattle.l4_headers.specs.declared.ports.Ports.{Ports}
-use Rattle.l4_headers.specs.Transport.{l4_of}
 use Rattle.icmp_messages.specs.declared.icmp4.Icmp4.{Icmp4}
 use Rattle.icmp_messages.specs.declared.icmp6.Icmp6.{Icmp6}
 use Rattle.icmp_messages.specs.declared.inner4.Inner4.{Inner4}

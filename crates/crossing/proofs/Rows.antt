@@ -1,6 +1,6 @@
 -- Which rows the tables of ICMP types have.
-use Rattle.std.proofs.Common.{◌≡◌, ◌⊎◌, ℕ, ◌^◌, ◌<◌, Bool, arith, true, false, cond, List, [], ◌∷◌, Option, Some, None, inl, inr, refl, sym, ap, subst}
-use Rattle.std.specs.Prelude.{◌==◌, ◌&&◌, ◌||◌, nat_le}
+use Rattle.std.proofs.Common.{◌≡◌, ◌⊎◌, ℕ, ◌^◌, ◌<◌, Bool, arith, true, false, cond, List, [], ◌∷◌, Option, Some, inl, inr, refl, sym, ap, subst}
+use Rattle.std.specs.Prelude.{◌&&◌, nat_le}
 use Rattle.icmp_xlat.specs.declared.table.Row.{Row}
 use Rattle.icmp_xlat.specs.declared.table.PointerRow.{PointerRow}
 use Rattle.icmp_xlat.specs.declared.table.Rest.{Rest}

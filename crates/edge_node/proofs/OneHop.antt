@@ -1,14 +1,14 @@
 -- An edge has one hop for a packet and an answer, and asks or drops in one way.
-use Rattle.std.proofs.Common.{◌≡◌, ◌⊎◌, ◌<◌, ◌≤◌, ℕ, List, [], false, Some, None, inl, inr, refl, sym, ap, ◌∙◌, subst, arith}
+use Rattle.std.proofs.Common.{◌≡◌, ℕ, List, false, inl, inr, sym, ap, ◌∙◌, subst, arith}
 use Rattle.std.specs.Prelude.{Option}
 use Rattle.octets.specs.declared.address.Addr4.{Addr4}
 use Rattle.octets.specs.declared.address.Addr6.{Addr6}
 use Rattle.octets.specs.declared.cause.Cause.{Cause}
 use Rattle.octets.specs.declared.cause.Cause.TheVariants.{TtlSpent}
 use Rattle.ip4_packet.specs.declared.head.Head4.{Head4}
-use Rattle.ip4_packet.specs.Grammar.{payload_of4, Is4}
+use Rattle.ip4_packet.specs.Grammar.{payload_of4}
 use Rattle.ip6_packet.specs.declared.head.Head6.{Head6}
-use Rattle.ip6_packet.specs.Grammar.{payload_of6, Is6}
+use Rattle.ip6_packet.specs.Grammar.{payload_of6}
 use Rattle.nat_model.specs.declared.answer.Answer.{Answer}
 use Rattle.nat_model.specs.declared.answer.Answer.TheVariants.{Out, Turn, In, Kept, Held, Refused}
 use Rattle.nat_model.specs.declared.ask.Ask.{Ask}
@@ -27,11 +27,11 @@ use Rattle.packets.proofs.Taken4.{never_both4, same_packet4}
 use Rattle.packets.proofs.Taken6.{never_both6, same_packet6}
 use Rattle.packets.proofs.TakenOnce.{taken4, taken6, made_of}
 use Rattle.transit.specs.declared.exit.Exit.{Exit}
-use Rattle.transit.specs.declared.exit.Exit.TheVariants.{ToLan, ToAccess, ToItself}
+use Rattle.transit.specs.declared.exit.Exit.TheVariants.{ToLan, ToAccess}
 use Rattle.transit.specs.declared.passage.Passage.{Passage}
 use Rattle.transit.specs.Hop.{drops, then, IsCarried}
 use Rattle.transit.specs.Passage64.{Way64}
-use Rattle.transit.specs.Reply.{has_notice, notice4, notice6, IsAnswer4, IsAnswer6}
+use Rattle.transit.specs.Reply.{notice4, notice6, IsAnswer4, IsAnswer6}
 use Rattle.transit.proofs.OneWay.{one_passage46, one_passage64, one_answer4, one_answer6, unnoticed4, unnoticed6, one_carried, all_freed}
 use Rattle.edge_node.specs.declared.way.Way.{Way}
 use Rattle.edge_node.specs.declared.way.Way.TheVariants.{Lan, Access, Turned}

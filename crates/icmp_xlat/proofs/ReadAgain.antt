@@ -1,10 +1,10 @@
 -- A translated embedded packet is read again, with its new ends.
-use Rattle.std.proofs.Common.{◌≡◌, ◌⊎◌, ℕ, suc, ◌+◌, ◌*◌, ◌-◌, ◌/◌, ◌%◌, ◌^◌, ◌<◌, ◌≤◌, ◌==◌, Bool, true, false, cond, not, ◌||◌, ◌&&◌, List, ◌∷◌, ◌++◌, length, take, drop, min, Option, Some, None, inl, inr, refl, sym, ap, ◌∙◌, subst, arith}
-use Rattle.std.specs.Prelude.{nat_le, is_some}
+use Rattle.std.proofs.Common.{◌≡◌, ◌⊎◌, ℕ, suc, ◌+◌, ◌*◌, ◌-◌, ◌/◌, ◌%◌, ◌^◌, ◌<◌, ◌≤◌, ◌==◌, Bool, true, false, cond, not, ◌||◌, ◌&&◌, List, length, take, drop, min, Option, Some, None, inl, inr, refl, sym, ap, ◌∙◌, subst, arith}
+use Rattle.std.specs.Prelude.{is_some}
 use Rattle.std.specs.Option.{option_map}
 use Rattle.std.proofs.lemmas.Bool.Decides.{leb_tells}
 use Rattle.std.proofs.lemmas.List.{places, length-take, length-drop, take_all}
-use Rattle.octets.specs.Field.{octet, word, part, with_word, in_word}
+use Rattle.octets.specs.Field.{octet, word, part, with_word}
 use Rattle.octets.proofs.Parts.{number_back}
 use Rattle.octets.proofs.Words.{length-with_word, word-with_word, word-with_word_other}
 use Rattle.octets.specs.declared.address.Addr4.{Addr4}
@@ -12,12 +12,10 @@ use Rattle.octets.specs.declared.address.Addr6.{Addr6}
 use Rattle.octets.specs.declared.mtus.Mtus.{Mtus}
 use Rattle.octets.specs.declared.proto.Proto.{Proto}
 use Rattle.octets.specs.declared.proto.Proto.TheVariants.{Tcp, Udp, Icmp}
-use Rattle.ip4_packet.specs.declared.head.Head4.{Head4}
-use Rattle.ip4_packet.specs.Written.{written4, IsInRange as IsInRange4}
+use Rattle.ip4_packet.specs.Written.{IsInRange as IsInRange4}
 use Rattle.ip4_packet.proofs.WrittenLemmas.{written_header4}
 use Rattle.ip6_packet.specs.declared.head.Head6.{Head6}
 use Rattle.ip6_packet.specs.declared.head.Frag6.{Frag6}
-use Rattle.ip6_packet.specs.Chain.{chain_in}
 use Rattle.ip6_packet.specs.Embedded.{HasHeaders6}
 use Rattle.ip6_packet.specs.Fragment.{fragment_offset}
 use Rattle.ip6_packet.specs.Grammar.{payload_len}
@@ -44,9 +42,9 @@ use Rattle.icmp_xlat.specs.declared.table.Rest.{Rest}
 use Rattle.icmp_xlat.specs.declared.table.Rest.TheVariants.{Query, Zero, Protocol, Mtu, Pointer}
 use Rattle.icmp_xlat.specs.Icmp46.{rest46, embedded46, error46}
 use Rattle.icmp_xlat.specs.Icmp64.{rest64, embedded64, error64}
-use Rattle.icmp_xlat.specs.Inner.{Change, inner_udp, inner_echo, inner_payload, echo_sum, echo46, echo64, change46, change64, inner_head46, inner_head64, inner46, inner64}
+use Rattle.icmp_xlat.specs.Inner.{Change, inner_echo, inner_payload, echo46, echo64, change46, change64, inner_head46, inner_head64, inner46, inner64}
 use Rattle.icmp_xlat.specs.Moved.{ports_of, moved46, moved64, held6, FitsInnerEnds6, FitsInnerEnds4}
-use Rattle.icmp_xlat.specs.Mtu.{mtu46, mtu64}
+use Rattle.icmp_xlat.specs.Mtu.{mtu64}
 use Rattle.icmp_xlat.specs.Table.{row_of, table46, pointer_of, pointers64}
 use Rattle.icmp_xlat.proofs.Rows.{no_length}
 

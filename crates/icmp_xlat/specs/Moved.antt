@@ -1,6 +1,6 @@
 -- The packet that an ICMP error embeds with other ends, as a value: what is read of it once it was translated (RFC 7915,
 -- sections 4.3 and 5.3).
-use Rattle.std.specs.Prelude.{ℕ, ◌-◌, ◌^◌, ◌<◌, take}
+use Rattle.std.specs.Prelude.{◌-◌, ◌^◌, ◌<◌, take}
 use Rattle.octets.specs.declared.address.Addr4.{Addr4}
 use Rattle.octets.specs.declared.address.Addr6.{Addr6}
 use Rattle.octets.specs.declared.proto.Proto.{Proto}

@@ -29,7 +29,7 @@ use Rattle.transit.specs.declared.passage.Passage.TheVariants.{Sent}
 use Rattle.crossing.specs.Named.{uncut}
 use Rattle.trace_text.specs.Answered.{AnsweredOut, AnsweredIn}
 use Rattle.trace_text.specs.Crossings.{Passed, EdgeToEdge}
-use Rattle.trace_text.proofs.SmallDomain.{setting, relay, shared, host, other_host, home6, other6, head4, head6, at_home, at_other, home, other, bindings, other_bindings, rules_are}
+use Rattle.trace_text.proofs.SmallDomain.{setting, shared, host, other_host, home6, other6, head4, head6, at_home, at_other, home, other, bindings, other_bindings, rules_are}
 use Rattle.trace_text.proofs.Readable.{taken4, packet6, udp4, udp6, later4, later6, inner4, inner6}
 
 -- the answers of both edges to a flow of the home's host to port 1236

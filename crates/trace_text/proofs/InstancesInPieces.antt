@@ -1,52 +1,34 @@
 -- The premises of the laws of a packet in pieces, met by one of 1268 octets, which doesn't fit the access network and is cut in two.
-use Rattle.std.proofs.Common.{◌≡◌, ℕ, true, false, List, [], ◌∷◌, Some, None, refl, arith, ◌+◌, ◌*◌, ◌^◌, ◌<◌, ◌≤◌, zero, suc, drop, length, replicate, slice_get}
-use Rattle.packets.proofs.Spared6.{whole6}
-use Rattle.ip6_packet.specs.Chain.{chain_in}
+use Rattle.std.proofs.Common.{◌≡◌, ℕ, true, false, List, [], ◌∷◌, Some, None, refl, arith, ◌*◌, ◌<◌, ◌≤◌, zero, suc, replicate, slice_get}
 use Rattle.octets.specs.declared.parcel.Parcel.{Parcel}
-use Rattle.octets.specs.declared.proto.Proto.TheVariants.{Udp, Icmp}
-use Rattle.ip4_packet.specs.declared.head.Head4.{Head4}
-use Rattle.ip6_packet.specs.declared.head.Frag6.{Frag6}
+use Rattle.octets.specs.declared.proto.Proto.TheVariants.{Udp}
 use Rattle.l4_headers.specs.Transport.{l4_of}
 use Rattle.map_rules.specs.Embedding.{embedded, extract_of}
 use Rattle.map_rules.specs.Rule.{rule_address, ce6_of, source_of}
 use Rattle.frag_table.specs.declared.key.FragKey.{FragKey}
 use Rattle.frag_table.specs.declared.note.Note.{Note}
 use Rattle.frag_table.specs.Frag.{frag}
-use Rattle.icmp_messages.specs.declared.icmp4.Icmp4.{Icmp4}
-use Rattle.icmp_messages.specs.declared.icmp6.Icmp6.{Icmp6}
-use Rattle.icmp_xlat.specs.Table.{row}
-use Rattle.icmp_xlat.specs.declared.table.Rest.TheVariants.{Query, Zero, Pointer}
-use Rattle.octets.specs.declared.address.Addr4.{Addr4}
-use Rattle.octets.specs.declared.address.Addr6.{Addr6}
-use Rattle.std.proofs.lemmas.Bool.{false≢true}
-use Rattle.packets.specs.declared.packet4.Content4.{Content4}
-use Rattle.packets.specs.declared.packet6.Content6.{Content6}
-use Rattle.icmp_messages.specs.declared.inner4.Inner4.{Inner4}
-use Rattle.icmp_messages.specs.declared.inner6.Inner6.{Inner6}
 use Rattle.nat_model.specs.declared.answer.Answer.{Answer}
 use Rattle.nat_model.specs.declared.answer.Answer.TheVariants.{Out, In}
 use Rattle.nat_model.specs.declared.ask.Part.TheVariants.{Whole, First, Later as LaterPart}
 use Rattle.nat_model.specs.Claim.{bound}
 use Rattle.nat_model.specs.Machine.{nat, timed, renewed, at_time, sent_flow, sent_error, received}
 use Rattle.nat_model.specs.Remote.{sent, remote, behind}
-use Rattle.packets.specs.declared.packet4.Content4.TheVariants.{Segment as Segment4, Later as Later4, Query as Query4, Error as Error4}
-use Rattle.packets.specs.declared.packet6.Content6.TheVariants.{Segment as Segment6, Later as Later6, Query as Query6, Error as Error6}
-use Rattle.transit.specs.declared.passage.Passage.TheVariants.{Sent}
+use Rattle.packets.specs.declared.packet4.Content4.TheVariants.{Segment as Segment4}
+use Rattle.packets.specs.declared.packet6.Content6.TheVariants.{Segment as Segment6, Later as Later6}
 use Rattle.trace_text.specs.Answered.{AnsweredOut, AnsweredIn}
-use Rattle.trace_text.specs.Crossings.{Passed, ToRelay, FromRelay, EdgeToEdge}
 use Rattle.ip4_packet.specs.Written.{written4}
 use Rattle.ip6_packet.specs.Written.{written6}
 use Rattle.ip6_packet.specs.declared.head.Head6.{Head6}
 use Rattle.packets.specs.declared.packet4.Packet4.{Packet4}
 use Rattle.packets.specs.declared.packet6.Packet6.{Packet6}
 use Rattle.packet_faults.specs.Cut.{AreCut, cut_for, piece}
-use Rattle.transit.specs.declared.passage.Passage.TheVariants.{Cut}
 use Rattle.crossing.specs.Nat44.{packet_from, packet_to}
 use Rattle.crossing.specs.Pieces.{Arrived}
 use Rattle.trace_text.specs.Pieces.{PassedInPieces, PiecesToRelay, PiecesFromRelay, PiecesBetweenEdges}
 use Rattle.nat_model.specs.declared.binding.Binding.{Binding}
-use Rattle.trace_text.proofs.SmallDomain.{binding, step_of, setting, relay, relay_in, relay_is, relay_fits, default, rule, mtus, shared, host, other_host, server, router, home6, other6, server6, router6, head4, head6, at_home, at_other, home, other, bindings, other_bindings, rules_are, home_is_a_source, server_is_a_destination, home_is_the_owner}
-use Rattle.trace_text.proofs.Readable.{form6, taken4, packet6, udp4, udp6, later4, later6, inner4, inner6}
+use Rattle.trace_text.proofs.SmallDomain.{binding, step_of, setting, relay, relay_in, relay_is, relay_fits, shared, host, other_host, server, home6, other6, server6, head4, head6, at_home, at_other, home, other, bindings, other_bindings, rules_are, home_is_a_source, server_is_a_destination, home_is_the_owner}
+use Rattle.trace_text.proofs.Readable.{form6, taken4, packet6, udp4, udp6, later6}
 
 -- the answer to a flow of the host to the server
 abbrev goes_out : Answer

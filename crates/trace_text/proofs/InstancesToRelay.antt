@@ -21,7 +21,7 @@ use Rattle.nat_model.specs.declared.answer.Answer.{Answer}
 use Rattle.nat_model.specs.declared.answer.Answer.TheVariants.{Out}
 use Rattle.nat_model.specs.declared.ask.Part.TheVariants.{Whole, First, Later as LaterPart}
 use Rattle.nat_model.specs.Claim.{bound}
-use Rattle.nat_model.specs.Machine.{nat, timed, renewed, at_time, sent_flow, sent_error, received}
+use Rattle.nat_model.specs.Machine.{nat, timed, renewed, at_time, sent_flow, sent_error}
 use Rattle.nat_model.specs.Remote.{sent}
 use Rattle.packets.specs.declared.packet4.Content4.TheVariants.{Segment as Segment4, Later as Later4, Query as Query4, Error as Error4}
 use Rattle.packets.specs.declared.packet6.Content6.TheVariants.{Segment as Segment6, Later as Later6, Query as Query6, Error as Error6}
@@ -29,7 +29,7 @@ use Rattle.transit.specs.declared.passage.Passage.TheVariants.{Sent}
 use Rattle.crossing.specs.Named.{uncut}
 use Rattle.trace_text.specs.Answered.{AnsweredOut}
 use Rattle.trace_text.specs.Crossings.{Passed, ToRelay}
-use Rattle.trace_text.proofs.SmallDomain.{setting, relay, relay_in, relay_is, shared, host, server, home6, server6, head4, head6, at_home, home, bindings, rules_are, home_is_a_source, server_is_a_destination}
+use Rattle.trace_text.proofs.SmallDomain.{setting, relay_in, relay_is, shared, host, server, home6, server6, head4, head6, at_home, home, bindings, rules_are, home_is_a_source, server_is_a_destination}
 use Rattle.trace_text.proofs.Readable.{taken4, packet6, udp4, udp6, later4, later6, inner4, inner6}
 
 -- the answer to a flow of the host to the server, or to an error about one
