@@ -33,7 +33,7 @@ use Rattle.trace_text.proofs.SmallDomain.{setting, relay_in, relay_is, relay_fit
 use Rattle.trace_text.proofs.Readable.{taken4, packet6, udp4, udp6, later4, later6, inner4, inner6}
 
 -- the answer to a flow of the server to the host
-abbrev comes_in : List Parcel → Answer
+abbrev pub comes_in : List Parcel → Answer
 comes_in freed = In host 5000 server server freed
 
 -- ---- a whole packet
@@ -46,7 +46,7 @@ abbrev whole_payload_over_six : List ℕ
 whole_payload_over_six =
     0 ∷ 53 ∷ 4 ∷ 208 ∷ 0 ∷ 10 ∷ 5 ∷ 119 ∷ 104 ∷ 105 ∷ []
 
-abbrev whole : Passed
+abbrev pub whole : Passed
 whole = record {
   taken = record { head = record (head4 60 server shared 17 10) { id = 9 }; content = Segment4 Udp (l4_of Udp whole_payload) };
   octets =
@@ -112,7 +112,7 @@ abbrev first_payload_over_six : List ℕ
 first_payload_over_six =
     0 ∷ 53 ∷ 4 ∷ 208 ∷ 0 ∷ 24 ∷ 42 ∷ 121 ∷ 97 ∷ 98 ∷ 99 ∷ 100 ∷ 101 ∷ 102 ∷ 103 ∷ 104 ∷ []
 
-abbrev first : Passed
+abbrev pub first : Passed
 first = record {
   taken = record { head = record (head4 60 server shared 17 16) { id = 33; mf = true }; content = Segment4 Udp (l4_of Udp first_payload) };
   octets =
@@ -140,7 +140,7 @@ abbrev later_payload : List ℕ
 later_payload =
     105 ∷ 106 ∷ 107 ∷ 108 ∷ 109 ∷ 110 ∷ 111 ∷ 112 ∷ []
 
-abbrev later : Passed
+abbrev pub later : Passed
 later = record {
   taken = record { head = record (head4 60 server shared 17 8) { id = 33; offset = 2 }; content = Later4 Udp };
   octets =
@@ -164,7 +164,7 @@ later = record {
 abbrev key : FragKey
 key = record { way = 1; src = server6.0; dst = home6.0; proto = 17; id = 33 }
 
-abbrev parcel : Parcel
+abbrev pub parcel : Parcel
 parcel = record { place = 2; bytes = later.six }
 
 abbrev waiting : List Note
@@ -287,7 +287,7 @@ echo_message = record { kind = 0; code = 0; rest = 1232 * 2 ^ 16 + 1; body = 104
 abbrev echo_message_over_six : Icmp6
 echo_message_over_six = record { kind = 129; code = 0; rest = 1232 * 2 ^ 16 + 1; body = 104 ∷ 105 ∷ [] }
 
-abbrev echo : Passed
+abbrev pub echo : Passed
 echo = record {
   taken = record { head = record (head4 60 server shared 1 10) { id = 9 }; content = Query4 echo_message (row 0 0 129 0 Query) };
   octets =
@@ -409,7 +409,7 @@ error_message = record { kind = 11; code = 0; rest = 0; body = drop 8 error_payl
 abbrev error_message_over_six : Icmp6
 error_message_over_six = record { kind = 3; code = 0; rest = 0; body = drop 8 error_payload_over_six }
 
-abbrev error : Passed
+abbrev pub error : Passed
 error = record {
   taken = record {
     head = record (head4 250 router shared 1 38) { id = 9 };

@@ -31,7 +31,7 @@ use Rattle.trace_text.proofs.SmallDomain.{binding, step_of, setting, relay, rela
 use Rattle.trace_text.proofs.Readable.{form6, taken4, packet6, udp4, udp6, later6}
 
 -- the answer to a flow of the host to the server
-abbrev goes_out : Answer
+abbrev pub goes_out : Answer
 goes_out = Out shared 1232 home6 server6 []
 
 -- ---- from an edge to the relay
@@ -60,7 +60,7 @@ out_first = record {
 abbrev out_second : Packet6
 out_second = record { head = head6 63 home6 server6 17 16 (Some (record { offset = 154; more = false; id = 21 })); content = Later6 Udp }
 
-abbrev out_pieces : List Parcel
+abbrev pub out_pieces : List Parcel
 out_pieces =
     record { place = 0; bytes = written6 out_first.head out_first_payload }
     ∷ record { place = 0; bytes = written6 out_second.head (replicate 16 0) }
@@ -103,7 +103,7 @@ out_arrived =
     }
     ∷ []
 
-abbrev out_passed : PassedInPieces
+abbrev pub out_passed : PassedInPieces
 out_passed = record { taken = out_taken; octets = written4 out_taken.head out_payload; pieces = out_pieces; arrived = out_arrived }
 
 out_answered : AnsweredOut (at_home []) server goes_out
@@ -203,7 +203,7 @@ in_first = record {
 abbrev in_second : Packet6
 in_second = record { head = head6 59 server6 home6 17 16 (Some (record { offset = 154; more = false; id = 33 })); content = Later6 Udp }
 
-abbrev in_pieces : List Parcel
+abbrev pub in_pieces : List Parcel
 in_pieces =
     record { place = 0; bytes = written6 in_first.head in_first_payload }
     ∷ record { place = 0; bytes = written6 in_second.head (replicate 16 0) }
@@ -243,7 +243,7 @@ in_arrived =
     }
     ∷ []
 
-abbrev in_passed : PassedInPieces
+abbrev pub in_passed : PassedInPieces
 in_passed = record { taken = in_taken; octets = written4 in_taken.head in_payload; pieces = in_pieces; arrived = in_arrived }
 
 abbrev in_key : FragKey

@@ -33,7 +33,7 @@ use Rattle.trace_text.proofs.SmallDomain.{setting, relay_in, relay_is, shared, h
 use Rattle.trace_text.proofs.Readable.{taken4, packet6, udp4, udp6, later4, later6, inner4, inner6}
 
 -- the answer to a flow of the host to the server, or to an error about one
-abbrev goes_out : List Parcel → Answer
+abbrev pub goes_out : List Parcel → Answer
 goes_out freed = Out shared 1232 home6 server6 freed
 
 -- ---- a whole packet
@@ -46,7 +46,7 @@ abbrev whole_payload_over_six : List ℕ
 whole_payload_over_six =
     4 ∷ 208 ∷ 0 ∷ 53 ∷ 0 ∷ 10 ∷ 5 ∷ 119 ∷ 104 ∷ 105 ∷ []
 
-abbrev whole : Passed
+abbrev pub whole : Passed
 whole = record {
   taken = record { head = record (head4 64 host server 17 10) { id = 1 }; content = Segment4 Udp (l4_of Udp whole_payload) };
   octets =
@@ -110,7 +110,7 @@ abbrev first_payload_over_six : List ℕ
 first_payload_over_six =
     4 ∷ 208 ∷ 0 ∷ 53 ∷ 0 ∷ 24 ∷ 42 ∷ 121 ∷ 97 ∷ 98 ∷ 99 ∷ 100 ∷ 101 ∷ 102 ∷ 103 ∷ 104 ∷ []
 
-abbrev first : Passed
+abbrev pub first : Passed
 first = record {
   taken = record { head = record (head4 64 host server 17 16) { id = 21; mf = true }; content = Segment4 Udp (l4_of Udp first_payload) };
   octets =
@@ -138,7 +138,7 @@ abbrev later_payload : List ℕ
 later_payload =
     105 ∷ 106 ∷ 107 ∷ 108 ∷ 109 ∷ 110 ∷ 111 ∷ 112 ∷ []
 
-abbrev later : Passed
+abbrev pub later : Passed
 later = record {
   taken = record { head = record (head4 64 host server 17 8) { id = 21; offset = 2 }; content = Later4 Udp };
   octets =
@@ -162,7 +162,7 @@ later = record {
 abbrev key : FragKey
 key = record { way = 0; src = host.0; dst = server.0; proto = 17; id = 21 }
 
-abbrev parcel : Parcel
+abbrev pub parcel : Parcel
 parcel = record { place = 2; bytes = later.octets }
 
 abbrev waiting : List Note
@@ -280,7 +280,7 @@ echo_message = record { kind = 8; code = 0; rest = 5000 * 2 ^ 16 + 1; body = 104
 abbrev echo_message_over_six : Icmp6
 echo_message_over_six = record { kind = 128; code = 0; rest = 1232 * 2 ^ 16 + 1; body = 104 ∷ 105 ∷ [] }
 
-abbrev echo : Passed
+abbrev pub echo : Passed
 echo = record {
   taken = record { head = record (head4 64 host server 1 10) { id = 1 }; content = Query4 echo_message (row 8 0 128 0 Query) };
   octets =
@@ -400,7 +400,7 @@ error_message = record { kind = 3; code = 3; rest = 0; body = drop 8 error_paylo
 abbrev error_message_over_six : Icmp6
 error_message_over_six = record { kind = 1; code = 4; rest = 0; body = drop 8 error_payload_over_six }
 
-abbrev error : Passed
+abbrev pub error : Passed
 error = record {
   taken = record { head = record (head4 64 host server 1 38) { id = 1 }; content = Error4 error_message (row 3 3 1 4 Zero) error_embedded };
   octets =

@@ -17,3 +17,4 @@ pub mod InstancesToRelay
 pub mod InstancesFromRelay
 pub mod InstancesBetweenEdges
 pub mod InstancesInPieces
+pub mod InstancesOfHops
