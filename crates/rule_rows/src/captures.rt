@@ -114,7 +114,9 @@ pub fn answer(
     said: &mut Said,
 ) -> Result<(), RowFault> {
     let text = parts.text(alloc, words)?;
-    let setup = Setup::read(alloc, text.as_slice()).map_err(|_| RowFault::NotARow)?;
+    let Ok(setup) = Setup::read(alloc, text.as_slice()) else {
+        return Err(RowFault::NotARow);
+    };
     let captures = captures_of(alloc, words)?;
     let fits = captures_fit(&setup, &captures);
     match call {

@@ -102,7 +102,10 @@ fn fault(alloc: Global, octets: &[u8], said: &mut Said) -> Result<(), RowFault> 
     let Err(fault) = read_container(alloc, octets) else {
         return said.word("none");
     };
-    said.number(u64::from(fault.place(octets.len() as u32)))?;
+    let Ok(length) = u32::try_from(octets.len()) else {
+        return Err(RowFault::NotARow);
+    };
+    said.number(u64::from(fault.place(length)))?;
     said.text(fault.to_string(alloc)?.as_bytes())
 }
 
