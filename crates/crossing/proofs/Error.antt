@@ -24,16 +24,18 @@ use Rattle.icmp_messages.proofs.InnerLemmas.{one_inner6}
 use Rattle.icmp_messages.specs.Inner.{IsInner4, IsInner6, IsCarried4}
 use Rattle.icmp_messages.specs.Message.{message4, message6}
 use Rattle.xlat46.specs.Fits.{FitsHead}
-use Rattle.xlat46.specs.Head.{is_fragment, upper_protocol}
+use Rattle.xlat46.specs.Head.{upper_protocol}
+use Rattle.ip4_packet.specs.Fragment.{is_fragment}
 use Rattle.xlat64.specs.Head.{protocol_of}
-use Rattle.icmp_xlat.specs.declared.ends.Ends.{Ends}
-use Rattle.icmp_xlat.specs.declared.table.Row.{Row}
-use Rattle.icmp_xlat.specs.declared.table.Rest.{Rest}
-use Rattle.icmp_xlat.specs.declared.table.Rest.TheVariants.{Query, Zero, Protocol, Mtu, Pointer}
-use Rattle.icmp_xlat.specs.Table.{table46, table64, row_of, pointers64, pointer_of}
+use Rattle.l4_headers.specs.declared.ends.Ends.{Ends}
+use Rattle.icmp_messages.specs.declared.table.Row.{Row}
+use Rattle.icmp_messages.specs.declared.table.Rest.{Rest}
+use Rattle.icmp_messages.specs.declared.table.Rest.TheVariants.{Query, Zero, Protocol, Mtu, Pointer}
+use Rattle.icmp_messages.specs.Table.{table46, table64, row_of, pointers64, pointer_of}
 use Rattle.icmp_xlat.specs.Mtu.{mtu46}
-use Rattle.icmp_xlat.specs.Icmp46.{rest46, error46, embedded46, with_message46}
-use Rattle.icmp_xlat.specs.Icmp64.{rest64, error64, embedded64, with_message64}
+use Rattle.icmp_xlat.specs.Icmp46.{rest46, error46, with_message46}
+use Rattle.icmp_messages.specs.Extension.{embedded46, embedded64}
+use Rattle.icmp_xlat.specs.Icmp64.{rest64, error64, with_message64}
 use Rattle.icmp_xlat.specs.Inner.{inner46, inner64, inner_head64, inner_payload}
 use Rattle.icmp_xlat.specs.Moved.{ports_of, moved46, held6, FitsInnerEnds6}
 use Rattle.icmp_xlat.proofs.ReadAgain.{held46, all_embedded6}
@@ -248,7 +250,7 @@ error_crosses t m row inner octets six four at_relay q e taken there back =
     let one = sees.one in
     let n = one.message in
     let head6 = head_there t (length over) in
-    let told = rest_back t.mtus head6 n one.row one.inner t.four id four (rest64 t.mtus n.rest one.row.rest) (subst (λ (c : Content6). translation64 t.mtus head6 over t.four id c ≡ Some four) one.is read.back) in
+    let told = rest_back t.mtus head6 n one.row one.inner t.four id four (rest64 t.mtus n.rest one.row.rest) (subst (λ (c : Content6). translation64 (record { mtus = t.mtus; ends = t.four; id = id }) head6 over c ≡ Some four) one.is read.back) in
     let rest : ℕ = told.0 in
     let new : Icmp4 = error64 one.row rest one.inner t.four in
     let whole = message4 new in

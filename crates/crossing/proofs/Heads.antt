@@ -16,9 +16,10 @@ use Rattle.ip6_packet.specs.Written.{written6, IsUpper, IsPlaced, FitsFrag, IsPa
 use Rattle.ip6_packet.proofs.EmbeddedLemmas.{same_headers6, headers_of6}
 use Rattle.ip6_packet.proofs.WrittenLemmas.{written_is6}
 use Rattle.xlat46.specs.Fits.{FitsHead}
-use Rattle.xlat46.specs.Head.{is_fragment, fragment_header, upper_protocol, translated as translated46}
+use Rattle.xlat46.specs.Head.{fragment_header, upper_protocol, translated as translated46}
+use Rattle.ip4_packet.specs.Fragment.{is_fragment}
 use Rattle.xlat64.specs.Head.{protocol_of, identification as identification64, dont_fragment as dont_fragment64, translated as translated64}
-use Rattle.icmp_xlat.specs.declared.ends.Ends.{Ends}
+use Rattle.l4_headers.specs.declared.ends.Ends.{Ends}
 use Rattle.packets.specs.declared.packet6.Content6.{Content6}
 use Rattle.packets.specs.declared.packet6.Content6.TheVariants.{Segment as Segment6, Later as Later6, Query as Query6, Error as Error6}
 use Rattle.packets.specs.declared.packet6.Packet6.{Packet6}
@@ -133,24 +134,24 @@ laid_inside t octets over six at_relay q taken laid is =
 
 -- A packet with a Fragment Header has its own identification, whatever other one the node gives.
 fixed_id : (mtus : Mtus) (head : Head6) (frag : Frag6) (payload : List ℕ) (ends : Ends Addr4) (id other : ℕ) (content : Content6)
-    → translation64 mtus (record head { frag = Some frag }) payload ends id content ≡ translation64 mtus (record head { frag = Some frag }) payload ends other content
+    → translation64 (record { mtus = mtus; ends = ends; id = id }) (record head { frag = Some frag }) payload content ≡ translation64 (record { mtus = mtus; ends = ends; id = other }) (record head { frag = Some frag }) payload content
 fixed_id mtus head frag payload ends id other (Segment6 proto l4) = refl
 fixed_id mtus head frag payload ends id other (Later6 proto) = refl
 fixed_id mtus head frag payload ends id other (Query6 m row) = refl
 fixed_id mtus head frag payload ends id other (Error6 m row inner) = refl
 
 pub numbered_as : (mtus : Mtus) (head : Head6) (payload : List ℕ) (ends : Ends Addr4) (id other : ℕ) (content : Content6) → (head.frag ≡ None → id ≡ other)
-    → translation64 mtus head payload ends id content ≡ translation64 mtus head payload ends other content
+    → translation64 (record { mtus = mtus; ends = ends; id = id }) head payload content ≡ translation64 (record { mtus = mtus; ends = ends; id = other }) head payload content
 numbered_as mtus head payload ends id other content same = by head.frag refl
   where
-    by : (frag : Option Frag6) → head.frag ≡ frag → translation64 mtus head payload ends id content ≡ translation64 mtus head payload ends other content
-    by None e = ap (λ (n : ℕ). translation64 mtus head payload ends n content) (same e)
-    by (Some frag) e = subst (λ (f : Option Frag6). translation64 mtus (record head { frag = f }) payload ends id content ≡ translation64 mtus (record head { frag = f }) payload ends other content) (sym e) (fixed_id mtus head frag payload ends id other content)
+    by : (frag : Option Frag6) → head.frag ≡ frag → translation64 (record { mtus = mtus; ends = ends; id = id }) head payload content ≡ translation64 (record { mtus = mtus; ends = ends; id = other }) head payload content
+    by None e = ap (λ (n : ℕ). translation64 (record { mtus = mtus; ends = ends; id = n }) head payload content) (same e)
+    by (Some frag) e = subst (λ (f : Option Frag6). translation64 (record { mtus = mtus; ends = ends; id = id }) (record head { frag = f }) payload content ≡ translation64 (record { mtus = mtus; ends = ends; id = other }) (record head { frag = f }) payload content) (sym e) (fixed_id mtus head frag payload ends id other content)
 
 -- What the second node reads of it, and makes of it.
 pub record Between (t : Transfer) (at_relay : Bool) (q : Packet6) (over four : List ℕ) : Type 0 where
   pub inside : IsContent6 at_relay (head_there t (length over)) over q.content
-  pub back : translation64 t.mtus (head_there t (length over)) over t.four (t.number % 2 ^ 16) q.content ≡ Some four
+  pub back : translation64 (record { mtus = t.mtus; ends = t.four; id = (t.number % 2 ^ 16) }) (head_there t (length over)) over q.content ≡ Some four
   pub lasts : 3 ≤ t.taken.head.ttl
 
 pub between : (t : Transfer) (octets over six four : List ℕ) (at_relay : Bool) (q : Packet6) → IsTakenAs t octets → IsLaid t over six → IsBack t at_relay q six four → Between t at_relay q over four
@@ -158,11 +159,11 @@ between t octets over six four at_relay q taken laid back =
     let id = t.number % 2 ^ 16 in
     let head6 = head_there t (length over) in
     let read = laid_reads t octets over six at_relay q taken laid back.is in
-    let makes : translation64 t.mtus q.head over t.four id q.content ≡ Some four = sym (numbered_as t.mtus q.head over t.four back.id id q.content back.numbered) ∙ subst (λ (xs : List ℕ). translation64 t.mtus q.head xs t.four back.id q.content ≡ Some four) read.payload_is back.back in
+    let makes : translation64 (record { mtus = t.mtus; ends = t.four; id = id }) q.head over q.content ≡ Some four = sym (numbered_as t.mtus q.head over t.four back.id id q.content back.numbered) ∙ subst (λ (xs : List ℕ). translation64 (record { mtus = t.mtus; ends = t.four; id = back.id }) q.head xs q.content ≡ Some four) read.payload_is back.back in
     let lasts : 1 < head6.hop = subst (λ (g : Head6). 1 < g.hop) read.head back.lasts in
     record {
       inside = laid_inside t octets over six at_relay q taken laid back.is;
-      back = subst (λ (g : Head6). translation64 t.mtus g over t.four id q.content ≡ Some four) read.head makes;
+      back = subst (λ (g : Head6). translation64 (record { mtus = t.mtus; ends = t.four; id = id }) g over q.content ≡ Some four) read.head makes;
       lasts = omega (arith, lasts);
     }
 

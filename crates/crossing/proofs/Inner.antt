@@ -24,7 +24,7 @@ use Rattle.icmp_messages.specs.declared.inner6.Inner6.{Inner6}
 use Rattle.icmp_messages.specs.Inner.{IsCarried4}
 use Rattle.xlat46.specs.Whole.{ArePorts, addresses_before as addresses4, addresses_after as addresses_of6}
 use Rattle.xlat64.specs.Whole.{addresses_after as addresses_of4}
-use Rattle.icmp_xlat.specs.declared.ends.Ends.{Ends}
+use Rattle.l4_headers.specs.declared.ends.Ends.{Ends}
 use Rattle.icmp_xlat.specs.Inner.{Change, inner_tcp, inner_udp, inner_echo, echo_sum, inner_payload, change46, change64, echo46, echo64, inner_head46}
 use Rattle.icmp_xlat.proofs.ReadAgain.{tcp_length, two_ports}
 use Rattle.crossing.specs.Named.{inner_change}

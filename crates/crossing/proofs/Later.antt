@@ -58,5 +58,5 @@ later_crosses t proto octets six four at_relay q e taken there back =
       sent = record { head = head_back t (length over); payload = over; octets = written4 (head_back t (length over)) over };
       named = named_uncut t over taken.fits read.lasts laid.laid.fits laid.number.back
           (subst (λ (c : Content4). IsPayload (crossing_of t) c (content_with t.four c) over) (sym e) refl);
-      octets_are = sym (some_same (written4 (head_back t (length over)) over) four (subst (λ (c : Content6). translation64 t.mtus (head_there t (length over)) over t.four (t.number % 2 ^ 16) c ≡ Some four) one read.back));
+      octets_are = sym (some_same (written4 (head_back t (length over)) over) four (subst (λ (c : Content6). translation64 (record { mtus = t.mtus; ends = t.four; id = (t.number % 2 ^ 16) }) (head_there t (length over)) over c ≡ Some four) one read.back));
     }

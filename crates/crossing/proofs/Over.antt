@@ -9,7 +9,7 @@ use Rattle.ip6_packet.specs.declared.head.Head6.{Head6}
 use Rattle.ip6_packet.specs.declared.head.Frag6.{Frag6}
 use Rattle.ip6_packet.specs.Fragment.{fragment_offset}
 use Rattle.octets.specs.declared.address.Addr6.{Addr6}
-use Rattle.icmp_xlat.specs.declared.ends.Ends.{Ends}
+use Rattle.l4_headers.specs.declared.ends.Ends.{Ends}
 use Rattle.l4_headers.specs.declared.ports.L4.{L4}
 use Rattle.l4_headers.specs.Transport.{header_octets, l4_of}
 use Rattle.packet_faults.specs.Cut.{AreCut, cut_for, piece, piece_frag, piece_head, piece_payload, step_of}

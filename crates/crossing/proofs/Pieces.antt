@@ -16,7 +16,7 @@ use Rattle.l4_headers.specs.Readdressed.{readdressed_sum}
 use Rattle.xlat46.specs.Whole.{ArePorts}
 use Rattle.xlat64.specs.Whole.{Parts6, addresses_before, addresses_after, payload64, packet64}
 use Rattle.packet_faults.specs.Cut.{step_of, piece, piece_head, piece_payload, IsCuttable}
-use Rattle.icmp_xlat.specs.declared.ends.Ends.{Ends}
+use Rattle.l4_headers.specs.declared.ends.Ends.{Ends}
 use Rattle.packets.specs.declared.packet4.Content4.{Content4}
 use Rattle.packets.specs.declared.packet4.Content4.TheVariants.{Segment as Segment4, Later as Later4, Query as Query4, Error as Error4}
 use Rattle.packets.specs.declared.packet4.Packet4.{Packet4}
@@ -45,7 +45,7 @@ pub record ComesOfPiece (t : Transfer) (whole : List ℕ) (at : ℕ) (four : Lis
 -- what the second node reads of a piece, and makes of it
 record BetweenPiece (t : Transfer) (at_relay : Bool) (q : Packet6) (over : List ℕ) (at : ℕ) (four : List ℕ) : Type 0 where
   inside : IsContent6 at_relay (piece_head (cut_of t over) at) (piece_payload (cut_of t over) at) q.content
-  back : translation64 t.mtus (piece_head (cut_of t over) at) (piece_payload (cut_of t over) at) t.four (t.number % 2 ^ 16) q.content ≡ Some four
+  back : translation64 (record { mtus = t.mtus; ends = t.four; id = (t.number % 2 ^ 16) }) (piece_head (cut_of t over) at) (piece_payload (cut_of t over) at) q.content ≡ Some four
   lasts : 3 ≤ t.taken.head.ttl
 
 between_piece : (t : Transfer) (at_relay : Bool) (q : Packet6) (over : List ℕ) (at : ℕ) (four : List ℕ) → Reads q (piece_head (cut_of t over) at) (piece_payload (cut_of t over) at) (piece (cut_of t over) at).bytes
@@ -55,11 +55,11 @@ between_piece t at_relay q over at four read back =
     let head6 = piece_head (cut_of t over) at in
     let body = piece_payload (cut_of t over) at in
     let inside : IsContent6 at_relay q.head body q.content = subst (λ (xs : List ℕ). IsContent6 at_relay q.head xs q.content) read.payload_is back.is.content in
-    let makes : translation64 t.mtus q.head body t.four id q.content ≡ Some four = sym (numbered_as t.mtus q.head body t.four back.id id q.content back.numbered) ∙ subst (λ (xs : List ℕ). translation64 t.mtus q.head xs t.four back.id q.content ≡ Some four) read.payload_is back.back in
+    let makes : translation64 (record { mtus = t.mtus; ends = t.four; id = id }) q.head body q.content ≡ Some four = sym (numbered_as t.mtus q.head body t.four back.id id q.content back.numbered) ∙ subst (λ (xs : List ℕ). translation64 (record { mtus = t.mtus; ends = t.four; id = back.id }) q.head xs q.content ≡ Some four) read.payload_is back.back in
     let lasts : 1 < head6.hop = subst (λ (g : Head6). 1 < g.hop) read.head back.lasts in
     record {
       inside = subst (λ (g : Head6). IsContent6 at_relay g body q.content) read.head inside;
-      back = subst (λ (g : Head6). translation64 t.mtus g body t.four id q.content ≡ Some four) read.head makes;
+      back = subst (λ (g : Head6). translation64 (record { mtus = t.mtus; ends = t.four; id = id }) g body q.content ≡ Some four) read.head makes;
       lasts = omega (arith, lasts);
     }
 
@@ -119,7 +119,7 @@ segment_at t proto l4 octets six four at at_relay q e taken small there place re
             sent = record { head = piece_back t over at; payload = new; octets = written4 (piece_back t over at) new };
             named = made new is;
             part_is = is;
-            octets_are = sym (some_same (packet64 (piece_parts t proto at) t.four.src t.four.dst (Some t.four.ports) id) four (subst (λ (c : Content6). translation64 t.mtus (piece_head (cut_of t over) at) (piece_payload (cut_of t over) at) t.four id c ≡ Some four) one.is read.back));
+            octets_are = sym (some_same (packet64 (piece_parts t proto at) t.four.src t.four.dst (Some t.four.ports) id) four (subst (λ (c : Content6). translation64 (record { mtus = t.mtus; ends = t.four; id = id }) (piece_head (cut_of t over) at) (piece_payload (cut_of t over) at) c ≡ Some four) one.is read.back));
           }
       | inr behind ↦
           let one = one_later at_relay (piece_head (cut_of t over) at) (piece_payload (cut_of t over) at) proto q.content laid.number.six flows (λ (none : fragment_offset (piece_head (cut_of t over) at).frag ≡ 0). omega (arith, offset, none, behind)) read.inside in
@@ -129,7 +129,7 @@ segment_at t proto l4 octets six four at at_relay q e taken small there place re
             sent = record { head = piece_back t over at; payload = new; octets = written4 (piece_back t over at) new };
             named = made new is;
             part_is = is;
-            octets_are = sym (some_same (written4 (piece_back t over at) new) four (subst (λ (c : Content6). translation64 t.mtus (piece_head (cut_of t over) at) (piece_payload (cut_of t over) at) t.four id c ≡ Some four) one read.back));
+            octets_are = sym (some_same (written4 (piece_back t over at) new) four (subst (λ (c : Content6). translation64 (record { mtus = t.mtus; ends = t.four; id = id }) (piece_head (cut_of t over) at) (piece_payload (cut_of t over) at) c ≡ Some four) one read.back));
           }
     ]
 
@@ -150,7 +150,7 @@ later_at t proto octets six four at at_relay q e taken small there place reads b
       sent = record { head = piece_back t over at; payload = new; octets = written4 (piece_back t over at) new };
       named = named_piece t over over new at (record { inside = place.inside; units = place.units; long = refl; part_is = refl }) small read.lasts laid.laid.fits laid.number.back carries;
       part_is = refl;
-      octets_are = sym (some_same (written4 (piece_back t over at) new) four (subst (λ (c : Content6). translation64 t.mtus (piece_head (cut_of t over) at) (piece_payload (cut_of t over) at) t.four id c ≡ Some four) one read.back));
+      octets_are = sym (some_same (written4 (piece_back t over at) new) four (subst (λ (c : Content6). translation64 (record { mtus = t.mtus; ends = t.four; id = id }) (piece_head (cut_of t over) at) (piece_payload (cut_of t over) at) c ≡ Some four) one read.back));
     }
 
 -- the place of each piece

@@ -18,10 +18,10 @@ use Rattle.icmp_messages.specs.declared.icmp6.Icmp6.{Icmp6}
 use Rattle.icmp_messages.specs.Message.{IsIcmp6, front, with_sum4, with_sum6, covered6, message4, message6}
 use Rattle.xlat46.specs.Head.{upper_protocol}
 use Rattle.xlat64.specs.Head.{protocol_of}
-use Rattle.icmp_xlat.specs.declared.ends.Ends.{Ends}
-use Rattle.icmp_xlat.specs.declared.table.Row.{Row}
-use Rattle.icmp_xlat.specs.declared.table.Rest.TheVariants.{Query}
-use Rattle.icmp_xlat.specs.Table.{table46, table64, row_of}
+use Rattle.l4_headers.specs.declared.ends.Ends.{Ends}
+use Rattle.icmp_messages.specs.declared.table.Row.{Row}
+use Rattle.icmp_messages.specs.declared.table.Rest.TheVariants.{Query}
+use Rattle.icmp_messages.specs.Table.{table46, table64, row_of}
 use Rattle.icmp_xlat.specs.Icmp46.{query46, with_message46}
 use Rattle.icmp_xlat.specs.Icmp64.{query64, with_message64}
 use Rattle.packets.specs.declared.packet4.Content4.{Content4}
@@ -143,7 +143,7 @@ identifier : (port rest : ℕ) → (port * 2 ^ 16 + rest % 2 ^ 16) / 2 ^ 16 ≡ 
 identifier port rest = omega arith
 
 outer_query : (n : Icmp6) (row : Row) (mtus : Mtus) (head : Head6) (payload : List ℕ) (one other : Ends Addr4) (id : ℕ) → one.src ≡ other.src → one.dst ≡ other.dst → one.ports ≡ other.ports
-    → translation64 mtus head payload one id (Query6 n row) ≡ translation64 mtus head payload other id (Query6 n row)
+    → translation64 (record { mtus = mtus; ends = one; id = id }) head payload (Query6 n row) ≡ translation64 (record { mtus = mtus; ends = other; id = id }) head payload (Query6 n row)
 outer_query n row mtus head payload one other id src dst ports =
     ap (λ (a : Addr4). some_octets (with_message64 head (query64 n row one) (record one { src = a }) id)) src
     ∙ ap (λ (a : Addr4). some_octets (with_message64 head (query64 n row one) (record one { src = other.src; dst = a }) id)) dst
@@ -174,7 +174,7 @@ query_crosses t m row octets six four at_relay q e taken there back =
     let whole = message4 new in
     let long_back : length whole ≡ 8 + length n.body = length-message4 new in
     let same : length n.body ≡ length m.body = ap (λ (xs : List ℕ). length xs) one.read.body in
-    let comes : with_message64 (head_there t (length over)) new t.four id ≡ four = some_same (with_message64 (head_there t (length over)) new t.four id) four (subst (λ (c : Content6). translation64 t.mtus (head_there t (length over)) over t.four id c ≡ Some four) one.is read.back) in
+    let comes : with_message64 (head_there t (length over)) new t.four id ≡ four = some_same (with_message64 (head_there t (length over)) new t.four id) four (subst (λ (c : Content6). translation64 (record { mtus = t.mtus; ends = t.four; id = id }) (head_there t (length over)) over c ≡ Some four) one.is read.back) in
     let rest : new.rest ≡ (with_identifier t.four.ports.src m).rest = ap (λ (r : ℕ). t.four.ports.src * 2 ^ 16 + r % 2 ^ 16) one.read.rest ∙ ap (λ (r : ℕ). t.four.ports.src * 2 ^ 16 + r) (kept t.six.ports.src m.rest) in
     let message : IsMessage (with_identifier t.four.ports.src m) new whole = record { there = row; back = one.row; first = laid.found; second = one.found; kind = refl; code = refl; sum = refl } in
     let after : IsQueryAfter (with_identifier t.four.ports.src m) whole = record { new = new; message = message; rest = rest; body = one.read.body } in

@@ -1,11 +1,11 @@
 -- Which rows the tables of ICMP types have.
 use Rattle.std.proofs.Common.{◌≡◌, ◌⊎◌, ℕ, ◌^◌, ◌<◌, Bool, arith, true, false, cond, List, [], ◌∷◌, Option, Some, inl, inr, refl, sym, ap, subst}
 use Rattle.std.specs.Prelude.{◌&&◌, nat_le}
-use Rattle.icmp_xlat.specs.declared.table.Row.{Row}
-use Rattle.icmp_xlat.specs.declared.table.PointerRow.{PointerRow}
-use Rattle.icmp_xlat.specs.declared.table.Rest.{Rest}
-use Rattle.icmp_xlat.specs.declared.table.Rest.TheVariants.{Query, Zero, Protocol, Mtu, Pointer}
-use Rattle.icmp_xlat.specs.Table.{row, row_of, table46, table64, pointers46, pointer_of}
+use Rattle.icmp_messages.specs.declared.table.Row.{Row}
+use Rattle.icmp_messages.specs.declared.table.PointerRow.{PointerRow}
+use Rattle.icmp_messages.specs.declared.table.Rest.{Rest}
+use Rattle.icmp_messages.specs.declared.table.Rest.TheVariants.{Query, Zero, Protocol, Mtu, Pointer}
+use Rattle.icmp_messages.specs.Table.{row, row_of, table46, table64, pointers46, pointer_of}
 use Rattle.icmp_xlat.proofs.Rows.{AllRows, same_row, found_row}
 
 -- the rows of queries, to IPv6 and back

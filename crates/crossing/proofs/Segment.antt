@@ -19,12 +19,13 @@ use Rattle.l4_headers.specs.PseudoHeader.{pseudo_header4, pseudo_header6, IsRigh
 use Rattle.l4_headers.specs.Readdressed.{as_written, port_words, readdressed_sum, computed_udp_sum}
 use Rattle.l4_headers.proofs.Laws.{length-with_l4, bad_with_l4, l4_of-with_tcp, l4_of-with_udp}
 use Rattle.l4_headers.proofs.RightSums.{header_stands}
-use Rattle.xlat46.specs.Head.{is_fragment, translated as translated46}
+use Rattle.xlat46.specs.Head.{translated as translated46}
+use Rattle.ip4_packet.specs.Fragment.{is_fragment}
 use Rattle.xlat46.specs.Whole.{Parts4, IsCarried4, ArePorts, lacks_sum, has_no_sum, sum46, payload46, packet46}
 use Rattle.xlat46.proofs.RightSums.{computed}
 use Rattle.xlat64.specs.Whole.{Parts6, IsCarried6, sum64, payload64, packet64}
 use Rattle.xlat64.proofs.RightSums.{changed as right_over_ipv4}
-use Rattle.icmp_xlat.specs.declared.ends.Ends.{Ends}
+use Rattle.l4_headers.specs.declared.ends.Ends.{Ends}
 use Rattle.packets.specs.declared.packet4.Content4.{Content4}
 use Rattle.packets.specs.declared.packet4.Content4.TheVariants.{Segment as Segment4}
 use Rattle.packets.specs.declared.packet6.Content6.{Content6}
@@ -228,10 +229,10 @@ pub record ReadsFlow (q : Content6) (proto : Proto) (ports : Ports) : Type 0 whe
   pub no_later : (other : Proto) → q ≡ Later6 other → ⊥
   -- it is translated by its outer ends alone
   pub outer : (mtus : Mtus) (head : Head6) (payload : List ℕ) (one other : Ends Addr4) (id : ℕ) → one.src ≡ other.src → one.dst ≡ other.dst → one.ports ≡ other.ports
-      → translation64 mtus head payload one id q ≡ translation64 mtus head payload other id q
+      → translation64 (record { mtus = mtus; ends = one; id = id }) head payload q ≡ translation64 (record { mtus = mtus; ends = other; id = id }) head payload q
 
 pub outer_segment : (proto : Proto) (l4 : L4) (mtus : Mtus) (head : Head6) (payload : List ℕ) (one other : Ends Addr4) (id : ℕ) → one.src ≡ other.src → one.dst ≡ other.dst → one.ports ≡ other.ports
-    → translation64 mtus head payload one id (Segment6 proto l4) ≡ translation64 mtus head payload other id (Segment6 proto l4)
+    → translation64 (record { mtus = mtus; ends = one; id = id }) head payload (Segment6 proto l4) ≡ translation64 (record { mtus = mtus; ends = other; id = id }) head payload (Segment6 proto l4)
 outer_segment proto l4 mtus head payload one other id src dst ports =
     let q : Parts6 = record { head = head; proto = proto; payload = payload } in
     ap (λ (a : Addr4). some_octets (packet64 q a one.dst (Some one.ports) id)) src
@@ -263,8 +264,8 @@ segment_crosses t proto l4 octets six four at_relay q e taken there back =
     let ports : ArePorts t.four.ports = subst (λ (c : Content4). FitsPorts c t.four.ports) e back.ports in
     let new = payload_back t proto in
     let size : length new ≡ h.total - h.head_len = length_back t proto laid.carries.stands ∙ sym (length_there t proto laid.carries.stands) ∙ laid.size in
-    let makes : translation64 t.mtus (translated46 h t.six.src t.six.dst) over t.four id q.content ≡ Some four = subst (λ (n : ℕ). translation64 t.mtus (head_there t n) over t.four id q.content ≡ Some four) laid.size read.back in
-    let comes : packet64 (parts_back t proto) t.four.src t.four.dst (Some t.four.ports) id ≡ four = some_same (packet64 (parts_back t proto) t.four.src t.four.dst (Some t.four.ports) id) four (subst (λ (c : Content6). translation64 t.mtus (translated46 h t.six.src t.six.dst) over t.four id c ≡ Some four) one.is makes) in
+    let makes : translation64 (record { mtus = t.mtus; ends = t.four; id = id }) (translated46 h t.six.src t.six.dst) over q.content ≡ Some four = subst (λ (n : ℕ). translation64 (record { mtus = t.mtus; ends = t.four; id = id }) (head_there t n) over q.content ≡ Some four) laid.size read.back in
+    let comes : packet64 (parts_back t proto) t.four.src t.four.dst (Some t.four.ports) id ≡ four = some_same (packet64 (parts_back t proto) t.four.src t.four.dst (Some t.four.ports) id) four (subst (λ (c : Content6). translation64 (record { mtus = t.mtus; ends = t.four; id = id }) (translated46 h t.six.src t.six.dst) over c ≡ Some four) one.is makes) in
     record {
       whole = new;
       sent = record { head = head_back t (length new); payload = new; octets = written4 (head_back t (length new)) new };

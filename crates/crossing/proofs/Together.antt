@@ -10,7 +10,7 @@ use Rattle.octets.specs.declared.address.Addr4.{Addr4}
 use Rattle.octets.specs.declared.parcel.Parcel.{Parcel}
 use Rattle.ip6_packet.specs.declared.head.Head6.{Head6}
 use Rattle.packet_faults.specs.Cut.{Cutting, AreCut, IsCuttable, cut_for, piece, step_of}
-use Rattle.icmp_xlat.specs.declared.ends.Ends.{Ends}
+use Rattle.l4_headers.specs.declared.ends.Ends.{Ends}
 use Rattle.packets.specs.declared.packet4.Packet4.{Packet4}
 use Rattle.packets.specs.declared.packet6.Packet6.{Packet6}
 use Rattle.crossing.specs.Named.{Sent, Named, piece_at}

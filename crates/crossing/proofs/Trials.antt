@@ -4,7 +4,7 @@ use Rattle.octets.specs.declared.proto.Proto.TheVariants.{Udp}
 use Rattle.octets.specs.declared.address.Addr4.{Addr4}
 use Rattle.octets.specs.declared.mtus.Mtus.{Mtus}
 use Rattle.icmp_messages.specs.declared.inner4.Inner4.{Inner4}
-use Rattle.icmp_xlat.specs.declared.table.Rest.TheVariants.{Pointer}
+use Rattle.icmp_messages.specs.declared.table.Rest.TheVariants.{Pointer}
 use Rattle.crossing.specs.Nat44.{inner_from}
 use Rattle.crossing.specs.Named.{Crossing, Sent, Named, Portion, inner_after, rest_after}
 

@@ -3,7 +3,7 @@ use Rattle.std.proofs.Common.{◌≡◌, ℕ, Bool, List, refl, ap}
 use Rattle.octets.specs.declared.proto.Proto.TheVariants.{Icmp}
 use Rattle.ip6_packet.specs.declared.head.Head6.{Head6}
 use Rattle.octets.specs.declared.address.Addr6.{Addr6}
-use Rattle.icmp_xlat.specs.declared.ends.Ends.{Ends}
+use Rattle.l4_headers.specs.declared.ends.Ends.{Ends}
 use Rattle.packets.specs.declared.packet6.Content6.{Content6}
 use Rattle.packets.specs.declared.packet6.Content6.TheVariants.{Later as Later6}
 use Rattle.packets.specs.Packet6.{IsPacket6}

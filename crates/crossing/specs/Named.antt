@@ -15,14 +15,14 @@ use Rattle.l4_headers.specs.Readdressed.{readdressed_sum}
 use Rattle.icmp_messages.specs.declared.icmp4.Icmp4.{Icmp4}
 use Rattle.icmp_messages.specs.declared.inner4.Inner4.{Inner4}
 use Rattle.icmp_messages.specs.Message.{message4}
-use Rattle.xlat46.specs.Head.{is_fragment}
+use Rattle.ip4_packet.specs.Fragment.{is_fragment}
 use Rattle.xlat46.specs.Whole.{addresses_before as addresses4, lacks_sum}
-use Rattle.icmp_xlat.specs.declared.table.Row.{Row}
-use Rattle.icmp_xlat.specs.declared.table.Rest.{Rest}
-use Rattle.icmp_xlat.specs.declared.table.Rest.TheVariants.{Query, Zero, Protocol, Mtu, Pointer}
+use Rattle.icmp_messages.specs.declared.table.Row.{Row}
+use Rattle.icmp_messages.specs.declared.table.Rest.{Rest}
+use Rattle.icmp_messages.specs.declared.table.Rest.TheVariants.{Query, Zero, Protocol, Mtu, Pointer}
 use Rattle.icmp_xlat.specs.Inner.{Change, inner_payload}
 use Rattle.icmp_xlat.specs.Mtu.{mtu46, mtu64}
-use Rattle.icmp_xlat.specs.Table.{table46, table64, row_of, pointers46, pointers64, pointer_of}
+use Rattle.icmp_messages.specs.Table.{table46, table64, row_of, pointers46, pointers64, pointer_of}
 use Rattle.packets.specs.declared.packet4.Content4.{Content4}
 use Rattle.packets.specs.declared.packet4.Content4.TheVariants.{Segment, Later, Query as QueryOf, Error}
 use Rattle.packets.specs.declared.packet4.Packet4.{Packet4}

@@ -11,7 +11,7 @@ use Rattle.l4_headers.specs.declared.ports.Ports.{Ports}
 use Rattle.icmp_messages.specs.declared.inner4.Inner4.{Inner4}
 use Rattle.xlat46.specs.Fits.{FitsHead}
 use Rattle.xlat46.specs.Whole.{ArePorts}
-use Rattle.icmp_xlat.specs.declared.ends.Ends.{Ends}
+use Rattle.l4_headers.specs.declared.ends.Ends.{Ends}
 use Rattle.packets.specs.declared.packet4.Content4.{Content4}
 use Rattle.packets.specs.declared.packet4.Content4.TheVariants.{Segment, Later, Query, Error}
 use Rattle.packets.specs.declared.packet4.Packet4.{Packet4}
@@ -105,7 +105,7 @@ pub record IsBack (t : Transfer) (at_relay : Bool) (q : Packet6) (six four : Lis
   pub ports : FitsPorts t.taken.content t.four.ports
   pub id : ℕ
   pub numbered : q.head.frag ≡ None → id ≡ t.number % 2 ^ 16
-  pub back : translation64 t.mtus q.head (payload_of6 q.head six) t.four id q.content ≡ Some four
+  pub back : translation64 (record { mtus = t.mtus; ends = t.four; id = id }) q.head (payload_of6 q.head six) q.content ≡ Some four
 
 -- the same packet between other ends over IPv4
 abbrev pub with_ends : Transfer → Ends Addr4 → Transfer

@@ -1,3 +1,3 @@
-pub mod Handed
+pub mod Emitted
 pub mod OneHop
-pub mod Parts
+pub mod Refused

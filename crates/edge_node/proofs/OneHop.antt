@@ -1,20 +1,20 @@
 -- An edge has one hop for a packet and an answer, and asks or drops in one way.
-use Rattle.std.proofs.Common.{◌≡◌, ℕ, List, false, inl, inr, sym, ap, ◌∙◌, subst, arith}
-use Rattle.std.specs.Prelude.{Option}
+use Rattle.std.proofs.Common.{◌≡◌, ℕ, List, false, inl, inr, sym, ◌∙◌, subst, arith}
 use Rattle.octets.specs.declared.address.Addr4.{Addr4}
 use Rattle.octets.specs.declared.address.Addr6.{Addr6}
 use Rattle.octets.specs.declared.cause.Cause.{Cause}
 use Rattle.octets.specs.declared.cause.Cause.TheVariants.{TtlSpent}
 use Rattle.ip4_packet.specs.declared.head.Head4.{Head4}
-use Rattle.ip4_packet.specs.Grammar.{payload_of4}
+use Rattle.ip4_packet.specs.Grammar.{payload_of4, Is4}
 use Rattle.ip6_packet.specs.declared.head.Head6.{Head6}
-use Rattle.ip6_packet.specs.Grammar.{payload_of6}
+use Rattle.ip6_packet.specs.Grammar.{payload_of6, Is6}
+use Rattle.l4_headers.specs.declared.ends.Ends.{Ends}
+use Rattle.turned_packets.specs.Turned.{turned_out}
 use Rattle.nat_model.specs.declared.answer.Answer.{Answer}
 use Rattle.nat_model.specs.declared.answer.Answer.TheVariants.{Out, Turn, In, Kept, Held, Refused}
 use Rattle.nat_model.specs.declared.ask.Ask.{Ask}
 use Rattle.nat_model.specs.Waiting.{freed_of}
-use Rattle.packet_faults.specs.declared.hop.Hop.{Hop}
-use Rattle.packet_faults.specs.Error.{Notice}
+use Rattle.hops.specs.declared.hop.Hop.{Hop}
 use Rattle.packets.specs.declared.packet4.Packet4.{Packet4}
 use Rattle.packets.specs.declared.packet6.Packet6.{Packet6}
 use Rattle.packets.specs.Asked.{flow_of4, flow_of6}
@@ -26,18 +26,20 @@ use Rattle.packets.proofs.Header6.{same_head6}
 use Rattle.packets.proofs.Taken4.{never_both4, same_packet4}
 use Rattle.packets.proofs.Taken6.{never_both6, same_packet6}
 use Rattle.packets.proofs.TakenOnce.{taken4, taken6, made_of}
-use Rattle.transit.specs.declared.exit.Exit.{Exit}
-use Rattle.transit.specs.declared.exit.Exit.TheVariants.{ToLan, ToAccess}
+use Rattle.hops.specs.declared.exit.Exit.{Exit}
+use Rattle.hops.specs.declared.exit.Exit.TheVariants.{ToLan, ToAccess}
 use Rattle.transit.specs.declared.passage.Passage.{Passage}
-use Rattle.transit.specs.Hop.{drops, then, IsCarried}
-use Rattle.transit.specs.Passage64.{Way64}
-use Rattle.transit.specs.Reply.{notice4, notice6, IsAnswer4, IsAnswer6}
-use Rattle.transit.proofs.OneWay.{one_passage46, one_passage64, one_answer4, one_answer6, unnoticed4, unnoticed6, one_carried, all_freed}
+use Rattle.hops.specs.Hop.{then, IsCarried}
+use Rattle.icmp_xlat.specs.declared.passing.Passing.{Passing}
+use Rattle.hops.specs.Reply.{notice4, notice6, IsReply4, IsReply6}
+use Rattle.transit.proofs.OneWay.{one_passage46, one_passage64}
+use Rattle.hops.proofs.OneWay.{one_answer4, one_answer6, one_refused, dropped_once, silent4, silent6, one_carried, all_freed}
 use Rattle.edge_node.specs.declared.way.Way.{Way}
 use Rattle.edge_node.specs.declared.way.Way.TheVariants.{Lan, Access, Turned}
 use Rattle.edge_node.specs.Asked.{outward, inward, inward_turned, IsAsk, IsDroppedAt}
 use Rattle.edge_node.specs.Ends.{ends_out, ends_in}
-use Rattle.edge_node.specs.Hop.{Node, IsReplyToLan, IsReplyToAccess, Drops, GoesOut, Turns, ComesIn, FromLan, FromAccess, FromItself, Becomes, IsLaterAt, Own, IsEdgeHop}
+use Rattle.edge_node.specs.Hop.{lan_answering, access_answering, IsRefusedToLan, IsRefusedToAccess, Drops, GoesOut, Turns, ComesIn, FromLan, FromAccess, FromItself, Becomes, IsLaterAt, Own, IsEdgeHop}
+use Rattle.edge_node.specs.declared.way.Node.{Node}
 
 -- what is asked is one
 pub one_ask : (way : Way) (octets : List ℕ) → IsTakenOrDropped (λ (ask : Ask). IsAsk way octets ask) (λ (cause : Cause). IsDroppedAt way cause octets)
@@ -45,62 +47,43 @@ one_ask Lan octets = made_of (λ (p : Packet4). IsPacket4 p octets) (λ (cause :
 one_ask Access octets = made_of (λ (p : Packet6). IsPacket6 false p octets) (λ (cause : Cause). IsDroppedAt Access cause octets) (λ (p : Packet6). inward p (flow_of6 p.content) octets) (taken6 false octets)
 one_ask Turned octets = made_of (λ (p : Packet4). IsPacket4 p octets) (λ (cause : Cause). IsDroppedAt Lan cause octets) (λ (p : Packet4). inward_turned p (flow_of4 p.content) octets) (taken4 octets)
 
--- the answer to a dropped packet is one
-reply_to_lan : (node : Node) (cause : Cause) (octets : List ℕ) → IsOneAtMost (IsReplyToLan node cause octets)
-reply_to_lan node cause octets one other (inl a) (inl b) = a.1 ∙ sym b.1
-reply_to_lan node cause octets one other (inl a) (inr (h, is, answer)) =
-    a.1 ∙ sym (subst (λ (n : Option Notice). IsAnswer4 h octets node.params.lan node.id n other) (unnoticed4 node.params.mtus cause a.0) answer)
-reply_to_lan node cause octets one other (inr (h, is, answer)) (inl b) =
-    subst (λ (n : Option Notice). IsAnswer4 h octets node.params.lan node.id n one) (unnoticed4 node.params.mtus cause b.0) answer ∙ sym b.1
-reply_to_lan node cause octets one other (inr (h, is, answer)) (inr (g, has, also)) =
-    let same : h ≡ g = same_head4 h g octets is has in
-    one_answer4 g octets node.params.lan node.id (notice4 node.params.mtus cause) one other
-    (subst (λ (x : Head4). IsAnswer4 x octets node.params.lan node.id (notice4 node.params.mtus cause) one) same answer) also
-
-reply_to_access : (node : Node) (cause : Cause) (octets : List ℕ) → IsOneAtMost (IsReplyToAccess node cause octets)
-reply_to_access node cause octets one other (inl a) (inl b) = a.1 ∙ sym b.1
-reply_to_access node cause octets one other (inl a) (inr (h, is, answer)) =
-    a.1 ∙ sym (subst (λ (n : Option Notice). IsAnswer6 h octets h.dst n other) (unnoticed6 node.params.mtus h.left cause a.0) answer)
-reply_to_access node cause octets one other (inr (h, is, answer)) (inl b) =
-    subst (λ (n : Option Notice). IsAnswer6 h octets h.dst n one) (unnoticed6 node.params.mtus h.left cause b.0) answer ∙ sym b.1
-reply_to_access node cause octets one other (inr (h, is, answer)) (inr (g, has, also)) =
-    let same : h ≡ g = same_head6 h g octets is has in
-    one_answer6 g octets g.dst (notice6 node.params.mtus g.left cause) one other
-    (subst (λ (x : Head6). IsAnswer6 x octets x.dst (notice6 node.params.mtus x.left cause) one) same answer) also
-
 one_drop : (node : Node) (way : Way) (octets : List ℕ) (cause : Cause) → IsOneAtMost (Drops node way octets cause)
-one_drop node Lan octets cause one other (x, reply, is) (y, answer, also) =
-    is ∙ ap (λ (r : Option (List ℕ)). drops cause ToLan r) (reply_to_lan node cause octets x y reply answer) ∙ sym also
-one_drop node Access octets cause one other (x, reply, is) (y, answer, also) =
-    is ∙ ap (λ (r : Option (List ℕ)). drops cause ToAccess r) (reply_to_access node cause octets x y reply answer) ∙ sym also
-one_drop node Turned octets cause one other a b = a ∙ sym b
+one_drop node Lan octets cause = dropped_once (λ (h : Head4). Is4 h (payload_of4 h octets) octets) (IsRefusedToLan node octets) cause
+    (λ h g is has. same_head4 h g octets is has)
+    (λ h. one_refused (IsReply4 (lan_answering node) h octets) ToLan cause (one_answer4 h octets (lan_answering node) (notice4 node.params.mtus cause)))
+    (λ h hop none refused. silent4 (lan_answering node) h octets cause hop none refused)
+one_drop node Access octets cause = dropped_once (λ (h : Head6). Is6 h (payload_of6 h octets) octets) (IsRefusedToAccess node octets) cause
+    (λ h g is has. same_head6 h g octets is has)
+    (λ h. one_refused (IsReply6 (access_answering node h) h octets) ToAccess cause (one_answer6 h octets (access_answering node h) (notice6 node.params.mtus h.left cause)))
+    (λ h hop none refused. silent6 (access_answering node h) h octets cause hop none refused)
+one_drop node Turned octets cause = λ one other a b. a ∙ sym b
 
 -- what becomes of one packet is one
-carried_once : (Dropped : Cause → Hop → Type 0) (exit : Exit) (x y : Passage) → x ≡ y → ((cause : Cause) → IsOneAtMost (Dropped cause))
-    → (one other : Hop) → IsCarried Dropped exit x one → IsCarried Dropped exit y other → one ≡ other
-carried_once Dropped exit x y same drop one other a b =
-    one_carried Dropped exit y drop one other (subst (λ (p : Passage). IsCarried Dropped exit p one) same a) b
+carried_once : (Loses : Cause → Hop → Type 0) (exit : Exit) (x y : Passage) → x ≡ y → ((cause : Cause) → IsOneAtMost (Loses cause))
+    → (one other : Hop) → IsCarried Loses exit x one → IsCarried Loses exit y other → one ≡ other
+carried_once Loses exit x y same drop one other a b =
+    one_carried Loses exit y drop one other (subst (λ (p : Passage). IsCarried Loses exit p one) same a) b
 
-goes_out : (node : Node) (octets : List ℕ) (port : ℕ) (src6 dst6 : Addr6) (p : Packet4) → IsOneAtMost (GoesOut node octets port src6 dst6 p)
-goes_out node octets port src6 dst6 p one other (x, passes, is) (y, leaves, also) =
-    let same = one_passage46 node.params.mtus p (payload_of4 p.head octets) (ends_out (flow_of4 p.content) port src6 dst6) x y passes leaves in
+goes_out : (node : Node) (octets : List ℕ) (ends : Ends Addr6) (p : Packet4) → IsOneAtMost (GoesOut node octets ends p)
+goes_out node octets ends p one other (x, passes, is) (y, leaves, also) =
+    let same = one_passage46 node.params.mtus p (payload_of4 p.head octets) ends x y passes leaves in
     carried_once (Drops node Lan octets) ToAccess x y same (one_drop node Lan octets) one other is also
 
-turns : (node : Node) (octets : List ℕ) (from : Addr4) (port : ℕ) (p : Packet4) → IsOneAtMost (Turns node octets from port p)
-turns node octets from port p one other (inl a) (inl b) = one_drop node Lan octets TtlSpent one other a.1 b.1
-turns node octets from port p one other (inl a) (inr b) = absurd (omega (arith, a.0, b.0))
-turns node octets from port p one other (inr a) (inl b) = absurd (omega (arith, a.0, b.0))
-turns node octets from port p one other (inr a) (inr b) = a.1 ∙ sym b.1
+turns : (node : Node) (octets : List ℕ) (p : Packet4) (turned : List ℕ) → IsOneAtMost (Turns node octets p turned)
+turns node octets p turned one other (inl a) (inl b) = one_drop node Lan octets TtlSpent one other a.1 b.1
+turns node octets p turned one other (inl a) (inr b) = absurd (omega (arith, a.0, b.0))
+turns node octets p turned one other (inr a) (inl b) = absurd (omega (arith, a.0, b.0))
+turns node octets p turned one other (inr a) (inr b) = a.1 ∙ sym b.1
 
-comes_in : (node : Node) (octets : List ℕ) (to : Addr4) (port : ℕ) (from peer : Addr4) (p : Packet6) → IsOneAtMost (ComesIn node octets to port from peer p)
-comes_in node octets to port from peer p one other (x, passes, is) (y, leaves, also) =
-    let way : Way64 = record { mtus = node.params.mtus; ends = ends_in (flow_of6 p.content) to port from peer; id = node.id } in
+comes_in : (node : Node) (octets : List ℕ) (ends : Ends Addr4) (p : Packet6) → IsOneAtMost (ComesIn node octets ends p)
+comes_in node octets ends p one other (x, passes, is) (y, leaves, also) =
+    let way : Passing Addr4 = record { mtus = node.params.mtus; ends = ends; id = node.id } in
     let same = one_passage64 way p (payload_of6 p.head octets) x y passes leaves in
     carried_once (Drops node Access octets) ToLan x y same (one_drop node Access octets) one other is also
 
 from_lan : (node : Node) (answer : Answer) (octets : List ℕ) (p : Packet4) → IsOneAtMost (FromLan node answer octets p)
-from_lan node (Out from port src6 dst6 freed) octets p one other a b = goes_out node octets port src6 dst6 p one other a b
-from_lan node (Turn from port freed) octets p one other a b = turns node octets from port p one other a b
+from_lan node (Out from port src6 dst6 freed) octets p one other a b = goes_out node octets (ends_out (flow_of4 p.content) port src6 dst6) p one other a b
+from_lan node (Turn from port freed) octets p one other a b = turns node octets p (turned_out from port p octets) one other a b
 from_lan node (In to port from peer freed) octets p one other a b = absurd a
 from_lan node (Kept port until) octets p one other a b = absurd a
 from_lan node Held octets p one other a b = a ∙ sym b
@@ -109,18 +92,18 @@ from_lan node (Refused cause freed) octets p one other a b = one_drop node Lan o
 from_access : (node : Node) (answer : Answer) (octets : List ℕ) (p : Packet6) → IsOneAtMost (FromAccess node answer octets p)
 from_access node (Out from port src6 dst6 freed) octets p one other a b = absurd a
 from_access node (Turn from port freed) octets p one other a b = absurd a
-from_access node (In to port from peer freed) octets p one other a b = comes_in node octets to port from peer p one other a b
+from_access node (In to port from peer freed) octets p one other a b = comes_in node octets (ends_in (flow_of6 p.content) to port from peer) p one other a b
 from_access node (Kept port until) octets p one other a b = absurd a
 from_access node Held octets p one other a b = a ∙ sym b
 from_access node (Refused cause freed) octets p one other a b = one_drop node Access octets cause one other a b
 
-from_itself : (node : Node) (answer : Answer) (octets : List ℕ) (p : Packet4) → IsOneAtMost (FromItself node answer octets p)
-from_itself node (Out from port src6 dst6 freed) octets p one other a b = absurd a
-from_itself node (Turn from port freed) octets p one other a b = absurd a
-from_itself node (In to port from peer freed) octets p one other a b = a ∙ sym b
-from_itself node (Kept port until) octets p one other a b = absurd a
-from_itself node Held octets p one other a b = a ∙ sym b
-from_itself node (Refused cause freed) octets p one other a b = one_drop node Turned octets cause one other a b
+from_itself : (answer : Answer) (octets : List ℕ) (p : Packet4) → IsOneAtMost (FromItself answer octets p)
+from_itself (Out from port src6 dst6 freed) octets p one other a b = absurd a
+from_itself (Turn from port freed) octets p one other a b = absurd a
+from_itself (In to port from peer freed) octets p one other a b = a ∙ sym b
+from_itself (Kept port until) octets p one other a b = absurd a
+from_itself Held octets p one other a b = a ∙ sym b
+from_itself (Refused cause freed) octets p one other a b = a ∙ sym b
 
 becomes : (node : Node) (way : Way) (answer : Answer) (octets : List ℕ) → IsOneAtMost (Becomes node way answer octets)
 becomes node Lan answer octets one other (p, is, a) (q, has, b) =
@@ -128,7 +111,7 @@ becomes node Lan answer octets one other (p, is, a) (q, has, b) =
 becomes node Access answer octets one other (p, is, a) (q, has, b) =
     from_access node answer octets q one other (subst (λ (x : Packet6). FromAccess node answer octets x one) (same_packet6 false p q octets is has) a) b
 becomes node Turned answer octets one other (p, is, a) (q, has, b) =
-    from_itself node answer octets q one other (subst (λ (x : Packet4). FromItself node answer octets x one) (same_packet4 p q octets is has) a) b
+    from_itself answer octets q one other (subst (λ (x : Packet4). FromItself answer octets x one) (same_packet4 p q octets is has) a) b
 
 -- a packet that becomes something isn't dropped before anything is asked
 no_drop : (node : Node) (way : Way) (answer : Answer) (octets : List ℕ) (hop : Hop) (cause : Cause) → Becomes node way answer octets hop → IsDroppedAt way cause octets → ⊥

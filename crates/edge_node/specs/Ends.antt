@@ -5,7 +5,7 @@ use Rattle.octets.specs.declared.address.Addr6.{Addr6}
 use Rattle.octets.specs.declared.proto.Proto.{Proto}
 use Rattle.octets.specs.declared.proto.Proto.TheVariants.{Icmp}
 use Rattle.l4_headers.specs.declared.ports.Ports.{Ports}
-use Rattle.icmp_xlat.specs.declared.ends.Ends.{Ends}
+use Rattle.l4_headers.specs.declared.ends.Ends.{Ends}
 use Rattle.packets.specs.declared.asked.Flow.{Flow}
 
 -- The packet's ports with this one at the side from which it comes: as its source port, or in the packet that an error

@@ -1,5 +1,4 @@
 pub mod Asked
 pub mod Ends
 pub mod Hop
-pub mod Inside
-pub mod Leaves
+pub mod Taken

@@ -1,16 +1,11 @@
-//! What an edge asks its machine.
-ghost use Rattle.std.specs.Prelude.{◌≡◌, ◌⊎◌, IfOk, Ok, Err};
-ghost use Rattle.octets.specs.declared.cause.Cause.{Cause as AnyCause};
-ghost use Rattle.octets.specs.declared.cause.Fault.TheVariants.{Drop as Dropped, NoMemory as WantsMemory};
-ghost use Rattle.nat_model.specs.declared.ask.Ask.{Ask as AnyAsk};
+//! What an edge asks its machine about a packet that was read.
+ghost use Rattle.std.specs.Prelude.{◌≡◌, IfOk};
 ghost use Rattle.packets.specs.Asked.{flow_of4, flow_of6, extent_of4, extent_of6, key_of4, key_of6};
-ghost use Rattle.edge_node.specs.declared.way.Way.TheVariants.{Lan as FromLan, Access as FromAccess, Turned as FromItself};
-ghost use Rattle.edge_node.specs.Asked.{near_addr4, near_addr6, near_port, other_port, asked_part, outward, inward, inward_turned, IsAsk, IsDroppedAt};
+ghost use Rattle.edge_node.specs.Asked.{near_addr4, near_addr6, near_port, other_port, asked_part, outward, inward, inward_turned};
 
-use crate::way::Way;
 use frag_table::FragKey;
 use nat_model::{Ask, End4, Far, Part};
-use octets::{Addr4, Addr6, Bytes, Fault, NoMemory};
+use octets::{Addr4, Addr6, Bytes, NoMemory};
 use packets::{Content4, Content6, Extent, Flow, Packet4, Packet6};
 use std::alloc::Global;
 
@@ -79,7 +74,7 @@ fn asked_part(alloc: Global, extent: Extent, key: FragKey, octets: &[u8]) -> Res
 }
 
 /// What is asked about a packet from the LAN.
-fn outward(alloc: Global, packet: &Packet4, octets: &[u8]) -> Result<Ask, NoMemory>
+pub(crate) fn outward(alloc: Global, packet: &Packet4, octets: &[u8]) -> Result<Ask, NoMemory>
     ensures { IfOk result (λ ask. ask ≡ outward packet.now (flow_of4 packet.now.content) octets.now) }
 {
     let flow = packet.flow();
@@ -102,7 +97,7 @@ fn outward(alloc: Global, packet: &Packet4, octets: &[u8]) -> Result<Ask, NoMemo
 }
 
 /// What is asked about a packet from the access network.
-fn inward(alloc: Global, packet: &Packet6, octets: &[u8]) -> Result<Ask, NoMemory>
+pub(crate) fn inward(alloc: Global, packet: &Packet6, octets: &[u8]) -> Result<Ask, NoMemory>
     ensures { IfOk result (λ ask. ask ≡ inward packet.now (flow_of6 packet.now.content) octets.now) }
 {
     let flow = packet.flow();
@@ -123,7 +118,7 @@ fn inward(alloc: Global, packet: &Packet6, octets: &[u8]) -> Result<Ask, NoMemor
 }
 
 /// What is asked about a packet that the edge turned.
-fn inward_turned(alloc: Global, packet: &Packet4, octets: &[u8]) -> Result<Ask, NoMemory>
+pub(crate) fn inward_turned(alloc: Global, packet: &Packet4, octets: &[u8]) -> Result<Ask, NoMemory>
     ensures { IfOk result (λ ask. ask ≡ inward_turned packet.now (flow_of4 packet.now.content) octets.now) }
 {
     let flow = packet.flow();
@@ -141,64 +136,4 @@ fn inward_turned(alloc: Global, packet: &Packet4, octets: &[u8]) -> Result<Ask, 
         flags: flow.flags,
         part: asked_part(alloc, packet.extent(), packet.key(FROM_ITSELF), octets)?,
     })
-}
-
-/// The ask of a packet from the LAN.
-fn from_lan(alloc: Global, octets: &[u8]) -> Result<Ask, Fault>
-    ensures found { IfOk result (IsAsk FromLan octets.now) }
-    ensures only { (ask : AnyAsk) → IsAsk FromLan octets.now ask → (result ≡ Ok ask) ⊎ (result ≡ Err WantsMemory) }
-    ensures refused { (cause : AnyCause) → result ≡ Err (Dropped cause) → IsDroppedAt FromLan cause octets.now }
-    ensures cause { (cause : AnyCause) → IsDroppedAt FromLan cause octets.now → (result ≡ Err (Dropped cause)) ⊎ (result ≡ Err WantsMemory) }
-{
-    match Packet4::read(alloc, octets) {
-        Ok(packet) => Ok(outward(alloc, &packet, octets)?),
-        Err(fault) => Err(fault),
-    }
-}
-
-/// The ask of a packet from the access network.
-fn from_access(alloc: Global, octets: &[u8]) -> Result<Ask, Fault>
-    ensures found { IfOk result (IsAsk FromAccess octets.now) }
-    ensures only { (ask : AnyAsk) → IsAsk FromAccess octets.now ask → (result ≡ Ok ask) ⊎ (result ≡ Err WantsMemory) }
-    ensures refused { (cause : AnyCause) → result ≡ Err (Dropped cause) → IsDroppedAt FromAccess cause octets.now }
-    ensures cause { (cause : AnyCause) → IsDroppedAt FromAccess cause octets.now → (result ≡ Err (Dropped cause)) ⊎ (result ≡ Err WantsMemory) }
-{
-    match Packet6::read(alloc, octets, false) {
-        Ok(packet) => Ok(inward(alloc, &packet, octets)?),
-        Err(fault) => Err(fault),
-    }
-}
-
-/// The ask of a packet that the edge turned.
-fn from_itself(alloc: Global, octets: &[u8]) -> Result<Ask, Fault>
-    ensures found { IfOk result (IsAsk FromItself octets.now) }
-    ensures only { (ask : AnyAsk) → IsAsk FromItself octets.now ask → (result ≡ Ok ask) ⊎ (result ≡ Err WantsMemory) }
-    ensures refused { (cause : AnyCause) → result ≡ Err (Dropped cause) → IsDroppedAt FromItself cause octets.now }
-    ensures cause { (cause : AnyCause) → IsDroppedAt FromItself cause octets.now → (result ≡ Err (Dropped cause)) ⊎ (result ≡ Err WantsMemory) }
-{
-    match Packet4::read(alloc, octets) {
-        Ok(packet) => Ok(inward_turned(alloc, &packet, octets)?),
-        Err(fault) => Err(fault),
-    }
-}
-
-/// What an edge asks its machine about the packet in these octets (RFC 7599, section 8): of a flow its ends, of an ICMP
-/// error the ends of the flow that the embedded packet belongs to, and whether it is a fragment.
-///
-/// Refuses, but for want of memory, exactly the packets that every node drops before it looks at a rule, with the least of
-/// their causes.
-pub fn ask_of(alloc: Global, way: Way, packet: &[u8]) -> Result<Ask, Fault>
-    ensures found { IfOk result (IsAsk way packet.now) }
-    // What is to be asked is asked.
-    ensures only { (ask : AnyAsk) → IsAsk way packet.now ask → (result ≡ Ok ask) ⊎ (result ≡ Err WantsMemory) }
-    // A refusal is the least cause.
-    ensures refused { (cause : AnyCause) → result ≡ Err (Dropped cause) → IsDroppedAt way cause packet.now }
-    // The least cause is a refusal.
-    ensures cause { (cause : AnyCause) → IsDroppedAt way cause packet.now → (result ≡ Err (Dropped cause)) ⊎ (result ≡ Err WantsMemory) }
-{
-    match way {
-        Way::Lan => from_lan(alloc, packet),
-        Way::Access => from_access(alloc, packet),
-        Way::Turned => from_itself(alloc, packet),
-    }
 }

@@ -1,96 +1,23 @@
 //! The hop of an edge.
-ghost use Rattle.std.specs.Prelude.{◌≡◌, OnOk, IfOk};
-ghost use Rattle.packet_faults.specs.declared.hop.Hop.{Hop as AnyHop};
-ghost use Rattle.transit.specs.Hop.{then, AreFreed};
-ghost use Rattle.nat_model.specs.Waiting.{freed_of};
+ghost use Rattle.std.specs.Prelude.{◌≡◌, IfOk, OnOk, false};
+ghost use Rattle.hops.specs.Gains.{Gains};
+ghost use Rattle.packets.specs.Found.{IsFound4, IsFound6};
 ghost use Rattle.edge_node.specs.declared.way.Way.TheVariants.{Lan as AtLan, Access as AtAccess, Turned as AtItself};
-ghost use Rattle.edge_node.specs.Hop.{Own, Becomes, IsLaterAt, IsEdgeHop, IsEmittable};
-ghost use Rattle.edge_node.specs.Inside.{node_in};
+ghost use Rattle.nat_model.specs.Waiting.{freed_of};
+ghost use Rattle.edge_node.specs.Hop.{IsEdgeHop, IsEmittable};
+ghost use Rattle.edge_node.specs.Taken.{way_of, IsRead};
 
-use crate::drops::{drop_from_access, drop_from_lan, drop_turned};
-use crate::freed::freed_all;
-use crate::inward::{from_access, from_itself};
-use crate::outward::from_lan;
+use crate::inward::{self, FromAccess, FromItself};
+use crate::outward::{self, FromLan};
+use crate::taken::Taken;
 use crate::way::{EdgeParams, Node, Way};
+use hops::{Emission, Hop, Ipv4, Ipv6, carry_flow};
+use ip4_packet::Head4;
+use ip6_packet::Head6;
 use nat_model::Answer;
-use octets::{Fault, NoMemory, Parcel};
-use packet_faults::Hop;
-use packets::{Packet4, Packet6};
+use octets::{NoMemory, Parcel};
+use packets::{Found, Packet4, Packet6};
 use std::alloc::Global;
-use transit::nothing;
-
-/// What becomes of a packet that was taken from the LAN.
-fn own_from_lan(
-    alloc: Global,
-    hop: &mut Hop,
-    node: &Node,
-    answer: &Answer,
-    octets: &[u8],
-) -> Result<(), NoMemory>
-    requires { IsEmittable AtLan answer.now octets.now }
-    ensures { OnOk result ((part : AnyHop) × Own (node_in node.now) AtLan answer.now octets.now part × (hop.new ≡ then hop.old part)) }
-{
-    match Packet4::read(alloc, octets) {
-        Ok(packet) => from_lan(alloc, hop, node, answer, &packet, octets),
-        Err(Fault::Drop(cause)) => drop_from_lan(alloc, hop, node, octets, cause),
-        Err(Fault::NoMemory) => Err(NoMemory),
-    }
-}
-
-/// What becomes of a packet that was taken from the access network.
-fn own_from_access(
-    alloc: Global,
-    hop: &mut Hop,
-    node: &Node,
-    answer: &Answer,
-    octets: &[u8],
-) -> Result<(), NoMemory>
-    requires { IsEmittable AtAccess answer.now octets.now }
-    ensures { OnOk result ((part : AnyHop) × Own (node_in node.now) AtAccess answer.now octets.now part × (hop.new ≡ then hop.old part)) }
-{
-    match Packet6::read(alloc, octets, false) {
-        Ok(packet) => from_access(alloc, hop, node, answer, &packet, octets),
-        Err(Fault::Drop(cause)) => drop_from_access(alloc, hop, node, octets, cause),
-        Err(Fault::NoMemory) => Err(NoMemory),
-    }
-}
-
-/// What becomes of a packet that the edge turned.
-fn own_from_itself(
-    alloc: Global,
-    hop: &mut Hop,
-    node: &Node,
-    answer: &Answer,
-    octets: &[u8],
-) -> Result<(), NoMemory>
-    requires { IsEmittable AtItself answer.now octets.now }
-    ensures { OnOk result ((part : AnyHop) × Own (node_in node.now) AtItself answer.now octets.now part × (hop.new ≡ then hop.old part)) }
-{
-    match Packet4::read(alloc, octets) {
-        Ok(packet) => from_itself(alloc, hop, node, answer, &packet, octets),
-        Err(Fault::Drop(cause)) => drop_turned(hop, node, octets, cause),
-        Err(Fault::NoMemory) => Err(NoMemory),
-    }
-}
-
-/// What becomes of the packet itself.
-fn own(
-    alloc: Global,
-    hop: &mut Hop,
-    node: &Node,
-    way: Way,
-    answer: &Answer,
-    octets: &[u8],
-) -> Result<(), NoMemory>
-    requires { IsEmittable way answer.now octets.now }
-    ensures { OnOk result ((part : AnyHop) × Own (node_in node.now) way answer.now octets.now part × (hop.new ≡ then hop.old part)) }
-{
-    match way {
-        Way::Lan => own_from_lan(alloc, hop, node, answer, octets),
-        Way::Access => own_from_access(alloc, hop, node, answer, octets),
-        Way::Turned => own_from_itself(alloc, hop, node, answer, octets),
-    }
-}
 
 /// The fragments that an answer freed.
 fn freed_by(answer: &Answer) -> &[Parcel]
@@ -105,23 +32,93 @@ fn freed_by(answer: &Answer) -> &[Parcel]
     }
 }
 
-/// What becomes of the fragments that the answer freed.
-fn freed(
-    alloc: Global,
-    hop: &mut Hop,
+/// What becomes of what came from the LAN.
+fn emit_from_lan(
     node: &Node,
-    way: Way,
+    found: &Found<Packet4, Head4>,
     answer: &Answer,
     octets: &[u8],
+    hop: &mut Emission,
 ) -> Result<(), NoMemory>
-    requires { IsEmittable way answer.now octets.now }
-    ensures { OnOk result ((part : AnyHop) × AreFreed (IsLaterAt way) (Becomes (node_in node.now) way answer.now) (freed_of answer.now) part × (hop.new ≡ then hop.old part)) }
+    requires found { IsFound4 octets.now found.now }
+    requires emittable { IsEmittable AtLan answer.now octets.now }
+    ensures { OnOk result (Gains (IsEdgeHop node.now AtLan answer.now octets.now) hop.old hop.new) }
 {
-    let freed = freed_by(answer);
-    if freed.is_empty() {
-        return Ok(());
+    match found {
+        Found::Taken(packet) => {
+            let from = FromLan { node, answer };
+            carry_flow::<Ipv4, FromLan<'_>>(&from, packet, octets, freed_by(answer), hop)
+        }
+        Found::Unreadable(cause) => hop.lose(*cause),
+        Found::Dropped(cause, head) => outward::in_hand(node, head, octets).refuse(*cause, hop),
     }
-    freed_all(alloc, hop, node, way, answer, freed)
+}
+
+/// What becomes of what came from the access network.
+fn emit_from_access(
+    node: &Node,
+    found: &Found<Packet6, Head6>,
+    answer: &Answer,
+    octets: &[u8],
+    hop: &mut Emission,
+) -> Result<(), NoMemory>
+    requires found { IsFound6 false octets.now found.now }
+    requires emittable { IsEmittable AtAccess answer.now octets.now }
+    ensures { OnOk result (Gains (IsEdgeHop node.now AtAccess answer.now octets.now) hop.old hop.new) }
+{
+    match found {
+        Found::Taken(packet) => {
+            let from = FromAccess { node, answer };
+            carry_flow::<Ipv6<false>, FromAccess<'_>>(&from, packet, octets, freed_by(answer), hop)
+        }
+        Found::Unreadable(cause) => hop.lose(*cause),
+        Found::Dropped(cause, head) => inward::in_hand(node, head, octets).refuse(*cause, hop),
+    }
+}
+
+/// What becomes of what the edge turned. Nothing answers it where it is dropped.
+fn emit_from_itself(
+    node: &Node,
+    found: &Found<Packet4, Head4>,
+    answer: &Answer,
+    octets: &[u8],
+    hop: &mut Emission,
+) -> Result<(), NoMemory>
+    requires found { IsFound4 octets.now found.now }
+    requires emittable { IsEmittable AtItself answer.now octets.now }
+    ensures { OnOk result (Gains (IsEdgeHop node.now AtItself answer.now octets.now) hop.old hop.new) }
+{
+    match found {
+        Found::Taken(packet) => {
+            let from = FromItself { answer };
+            carry_flow::<Ipv4, FromItself<'_>>(&from, packet, octets, freed_by(answer), hop)
+        }
+        Found::Unreadable(cause) | Found::Dropped(cause, _) => hop.lose(*cause),
+    }
+}
+
+impl Taken {
+    /// What an edge sends and drops by this packet that it took and its machine's answer, as `emit` says. The octets are those
+    /// that the packet was read from.
+    pub fn emit(
+        &self,
+        alloc: Global,
+        node: &Node,
+        answer: &Answer,
+        octets: &[u8],
+    ) -> Result<Hop, NoMemory>
+        requires read { IsRead octets.now self.now }
+        requires emittable { IsEmittable (way_of self.now) answer.now octets.now }
+        ensures { IfOk result (IsEdgeHop node.now (way_of self.now) answer.now octets.now) }
+    {
+        let mut hop = Emission::new(alloc);
+        match self {
+            Taken::Lan(found) => emit_from_lan(node, found, answer, octets, &mut hop)?,
+            Taken::Access(found) => emit_from_access(node, found, answer, octets, &mut hop)?,
+            Taken::Turned(found) => emit_from_itself(node, found, answer, octets, &mut hop)?,
+        }
+        Ok(hop.hop())
+    }
 }
 
 /// What an edge sends and drops, by the packet that it took on this way and its machine's answer (RFC 7599, section 8;
@@ -145,8 +142,6 @@ pub fn emit(
     ensures { IfOk result (IsEdgeHop (record { params = setup.now; id = id }) way answer.now packet.now) }
 {
     let node = Node { params: *setup, id };
-    let mut hop = nothing(alloc);
-    own(alloc, &mut hop, &node, way, answer, packet)?;
-    freed(alloc, &mut hop, &node, way, answer, packet)?;
-    Ok(hop)
+    let taken = Taken::read(alloc, way, packet)?;
+    taken.emit(alloc, &node, answer, packet)
 }

@@ -5,7 +5,8 @@ ghost use Rattle.nat_model.specs.declared.answer.Answer.{Answer as AnyAnswer};
 ghost use Rattle.packets.specs.OneOf.{IsOneAtMost, IsTakenOrDropped};
 ghost use Rattle.edge_node.specs.declared.way.Way.{Way as AnyWay};
 ghost use Rattle.edge_node.specs.Asked.{IsAsk, IsDroppedAt};
-ghost use Rattle.edge_node.specs.Hop.{Node, IsEdgeHop};
+ghost use Rattle.edge_node.specs.Hop.{IsEdgeHop};
+ghost use Rattle.edge_node.specs.declared.way.Node.{Node};
 
 /// Law: something is asked about each packet, or it is dropped for a cause before anything is asked: one of both always, never
 /// both, and in one way.

@@ -3,18 +3,17 @@
 #![tactic(auto)]
 
 mod ask;
-mod drops;
 mod equal;
-mod freed;
 mod hop;
 mod inward;
 mod laws;
 mod outward;
+mod taken;
 mod way;
 
-pub use ask::ask_of;
 pub use equal::equal_values_are_the_same;
 pub use hop::emit;
+pub use hops::{Causes, Hop, Out, Outs};
 pub use laws::{an_edge_has_one_hop, each_packet_asks_the_edge_or_is_dropped};
-pub use packet_faults::{Causes, Hop, Out, Outs};
-pub use way::{EdgeParams, Way};
+pub use taken::{Taken, ask_of};
+pub use way::{EdgeParams, Node, Way};

@@ -1,25 +1,22 @@
 //! Packets from the LAN.
 ghost use Rattle.std.specs.Prelude.{◌≡◌, OnOk};
-ghost use Rattle.octets.specs.declared.proto.Proto.{Proto as AnyProto};
-ghost use Rattle.packet_faults.specs.declared.hop.Hop.{Hop as AnyHop};
-ghost use Rattle.packets.specs.Asked.{flow_of4};
+ghost use Rattle.octets.specs.declared.cause.Cause.{Cause as AnyCause};
 ghost use Rattle.packets.specs.Packet4.{IsPacket4};
-ghost use Rattle.transit.specs.Hop.{then};
+ghost use Rattle.hops.specs.Gains.{Gains};
 ghost use Rattle.edge_node.specs.declared.way.Way.TheVariants.{Lan as AtLan};
 ghost use Rattle.edge_node.specs.Ends.{with_near_port, ends_out};
-ghost use Rattle.edge_node.specs.Hop.{GoesOut, Turns, FromLan, IsAnswerAt};
-ghost use Rattle.edge_node.specs.Inside.{node_in};
+ghost use Rattle.edge_node.specs.Hop.{Drops, FromLan, GoesOut, Turns, IsAnswerAt, lan_answering};
+ghost use Rattle.turned_packets.specs.Turned.{turned_out};
 
-use crate::drops::{drop_from_lan, leave};
 use crate::way::Node;
-use icmp_xlat::Ends;
+use hops::{Answering, Carries, Emission, Exit, InHand, Ipv4};
+use icmp_xlat::{Ends, Passing};
+use ip4_packet::Head4;
 use l4_headers::Ports;
 use nat_model::Answer;
 use octets::{Addr4, Addr6, Cause, NoMemory, Proto};
-use packet_faults::Hop;
 use packets::{Flow, Packet4};
-use std::alloc::Global;
-use transit::{Exit, passage46, send};
+use transit::passage46;
 use turned_packets::turned_out;
 
 /// The packet's ports with this one at the side from which it comes.
@@ -60,71 +57,92 @@ fn ends_out(flow: &Flow, port: u16, src6: Addr6, dst6: Addr6) -> Ends<Addr6>
     }
 }
 
-/// The packet goes out to the access network.
-fn go_out(
-    alloc: Global,
-    hop: &mut Hop,
-    node: &Node,
-    packet: &Packet4,
-    octets: &[u8],
-    port: u16,
-    src6: Addr6,
-    dst6: Addr6,
-) -> Result<(), NoMemory>
-    requires { IsPacket4 packet.now octets.now }
-    ensures { OnOk result ((part : AnyHop) × GoesOut (node_in node.now) octets.now port src6 dst6 packet.now part × (hop.new ≡ then hop.old part)) }
+/// A packet from the LAN in the edge's hand, which answers it from its own address there.
+pub(crate) fn in_hand<'a>(node: &Node, head: &'a Head4, octets: &'a [u8]) -> InHand<'a, Ipv4>
+    ensures head { result.head.now ≡ head.now }
+    ensures octets { result.octets.now ≡ octets.now }
+    ensures from { result.from ≡ lan_answering node.now }
 {
-    let ends = ends_out(&packet.flow(), port, src6, dst6);
-    let passage = passage46(alloc, node.params.mtus, packet, octets, &ends)?;
-    match leave(alloc, hop, Exit::ToAccess, passage)? {
-        None => Ok(()),
-        Some(cause) => drop_from_lan(alloc, hop, node, octets, cause),
+    InHand {
+        head,
+        octets,
+        from: Answering {
+            mtus: node.params.mtus,
+            src: node.params.lan,
+            id: node.id,
+            exit: Exit::ToLan,
+        },
     }
 }
 
-/// The packet is turned.
-fn turn(
-    alloc: Global,
-    hop: &mut Hop,
+/// The packet goes out to the access network, between these ends.
+fn go_out(
     node: &Node,
     packet: &Packet4,
     octets: &[u8],
-    from: Addr4,
-    port: u16,
+    ends: Ends<Addr6>,
+    hop: &mut Emission,
 ) -> Result<(), NoMemory>
     requires { IsPacket4 packet.now octets.now }
-    ensures { OnOk result ((part : AnyHop) × Turns (node_in node.now) octets.now from port packet.now part × (hop.new ≡ then hop.old part)) }
+    ensures { OnOk result (Gains (GoesOut node.now octets.now ends packet.now) hop.old hop.new) }
+{
+    let passing = Passing {
+        mtus: node.params.mtus,
+        ends,
+        id: node.id,
+    };
+    let passage = passage46(hop.alloc(), &passing, packet, octets)?;
+    in_hand(node, &packet.head, octets).leave(Exit::ToAccess, passage, hop)
+}
+
+/// The packet is turned, with this source.
+fn turn(
+    node: &Node,
+    packet: &Packet4,
+    octets: &[u8],
+    source: (Addr4, u16),
+    hop: &mut Emission,
+) -> Result<(), NoMemory>
+    requires { IsPacket4 packet.now octets.now }
+    ensures { OnOk result (Gains (Turns node.now octets.now packet.now (turned_out source.0 source.1 packet.now octets.now)) hop.old hop.new) }
 {
     if packet.head.ttl <= 1 {
-        return drop_from_lan(alloc, hop, node, octets, Cause::TtlSpent);
+        return in_hand(node, &packet.head, octets).refuse(Cause::TtlSpent, hop);
     }
-    let turned = turned_out(alloc, packet, octets, from, port)?;
-    send(hop, Exit::ToItself, turned)
+    let (from, port) = source;
+    let turned = turned_out(hop.alloc(), packet, octets, from, port)?;
+    hop.send(Exit::ToItself, turned)
 }
 
-/// What becomes of a packet from the LAN.
-pub(crate) fn from_lan(
-    alloc: Global,
-    hop: &mut Hop,
-    node: &Node,
-    answer: &Answer,
-    packet: &Packet4,
-    octets: &[u8],
-) -> Result<(), NoMemory>
-    requires is { IsPacket4 packet.now octets.now }
-    requires answer { IsAnswerAt AtLan answer.now }
-    ensures { OnOk result ((part : AnyHop) × FromLan (node_in node.now) answer.now octets.now packet.now part × (hop.new ≡ then hop.old part)) }
-{
-    match answer {
-        Answer::Out {
-            port,
-            src6,
-            dst6,
-            ..
-        } => go_out(alloc, hop, node, packet, octets, *port, *src6, *dst6),
-        Answer::Turn { from, port, .. } => turn(alloc, hop, node, packet, octets, *from, *port),
-        Answer::Held => Ok(()),
-        Answer::Refused { cause, .. } => drop_from_lan(alloc, hop, node, octets, *cause),
-        Answer::In { .. } | Answer::Kept { .. } => unreachable!(),
+/// Packets from the LAN by one answer of the edge's machine.
+#[derive(Drop)]
+pub(crate) struct FromLan<'a> {
+    pub(crate) node: &'a Node,
+    pub(crate) answer: &'a Answer,
+    pub(crate) ghost fits: { ∥ IsAnswerAt AtLan answer.now ∥₁ },
+}
+
+impl Carries<Ipv4> for FromLan<'_> {
+    ghost Becomes = { λ from p octets hop. FromLan from.node.now from.answer.now octets p hop };
+
+    fn carry(&self, packet: &Packet4, octets: &[u8], hop: &mut Emission) -> Result<(), NoMemory> {
+        let node = self.node;
+        match self.answer {
+            Answer::Out {
+                port,
+                src6,
+                dst6,
+                ..
+            } => {
+                let ends = ends_out(&packet.flow(), *port, *src6, *dst6);
+                go_out(node, packet, octets, ends, hop)
+            }
+            Answer::Turn { from, port, .. } => turn(node, packet, octets, (*from, *port), hop),
+            Answer::Held => Ok(()),
+            Answer::Refused { cause, .. } => {
+                in_hand(node, &packet.head, octets).refuse(*cause, hop)
+            }
+            Answer::In { .. } | Answer::Kept { .. } => unreachable!(),
+        }
     }
 }

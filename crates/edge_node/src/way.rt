@@ -20,7 +20,7 @@ pub struct EdgeParams {
 
 /// An edge as it emits a packet: what it goes by, and the identification of packets that have none of their own.
 #[derive(Clone, Copy, Debug)]
-pub(crate) struct Node {
-    pub(crate) params: EdgeParams,
-    pub(crate) id: u16,
+pub struct Node {
+    pub params: EdgeParams,
+    pub id: u16,
 }

@@ -1,16 +1,15 @@
 //! ICMP messages, translated.
 
 ghost use Rattle.std.specs.Prelude.{◌≡◌, IsTrue, false, None};
-ghost use Rattle.icmp_xlat.specs.Icmp46.{IsAccepted46, EmbedsOne46};
-ghost use Rattle.icmp_xlat.specs.Icmp64.{IsAccepted64, EmbedsOne64};
-ghost use Rattle.icmp_xlat.specs.Table.{row_of, table46, table64};
+ghost use Rattle.icmp_xlat.specs.Icmp46.{IsAccepted46};
+ghost use Rattle.icmp_messages.specs.Rows.{EmbedsOne46, EmbedsOne64};
+ghost use Rattle.icmp_xlat.specs.Icmp64.{IsAccepted64};
+ghost use Rattle.icmp_messages.specs.Table.{row_of, table46, table64};
 
 use crate::drawn::{mtus, ports};
 use crate::sent::{say_fault, say_unmet};
-use icmp_messages::{Icmp4, Icmp6, read_inner4, read_inner6};
-use icmp_xlat::{
-    Ends, Rest, Row, embedded46, embedded64, icmp46, icmp64, translation46, translation64,
-};
+use icmp_messages::{Icmp4, Icmp6, Rest, read_inner4, read_inner6, row46, row64};
+use icmp_xlat::{Ends, icmp46, icmp64};
 use ip4_packet::Head4;
 use ip6_packet::Head6;
 use octets::protocol::{ICMP4, ICMP6};
@@ -24,41 +23,17 @@ const LASTING: u8 = 2;
 /// The most octets behind an IPv4 header.
 const MOST_PAYLOAD: u16 = 65_515;
 
-/// The row of an ICMPv4 type and code: the one by which a message with a pointer to the first octet is translated.
-fn row46(alloc: Global, kind: u8, code: u8) -> Option<Row>
-    ensures { result ≡ row_of table46 kind code }
-{
-    translation46(&Icmp4 {
-        kind,
-        code,
-        rest: 0,
-        body: Bytes::new(alloc),
-    })
-}
-
-/// The row of an ICMPv6 type and code.
-fn row64(alloc: Global, kind: u8, code: u8) -> Option<Row>
-    ensures { result ≡ row_of table64 kind code }
-{
-    translation64(&Icmp6 {
-        kind,
-        code,
-        rest: 0,
-        body: Bytes::new(alloc),
-    })
-}
-
 /// Whether the message is a query, has no row, or embeds a packet that can be read.
 fn embeds46(alloc: Global, message: &Icmp4) -> bool
     ensures { IsTrue result → EmbedsOne46 message.now (row_of table46 message.now.kind message.now.code) }
 {
-    let Some(row) = row46(alloc, message.kind, message.code) else {
+    let Some(row) = row46(message.kind, message.code) else {
         return true;
     };
     if matches!(row.rest, Rest::Query) {
         return true;
     }
-    match read_inner4(alloc, embedded46(message)) {
+    match read_inner4(alloc, message.embedded()) {
         Ok(_inner) => true,
         Err(_) => false,
     }
@@ -67,13 +42,13 @@ fn embeds46(alloc: Global, message: &Icmp4) -> bool
 fn embeds64(alloc: Global, message: &Icmp6) -> bool
     ensures { IsTrue result → EmbedsOne64 message.now (row_of table64 message.now.kind message.now.code) }
 {
-    let Some(row) = row64(alloc, message.kind, message.code) else {
+    let Some(row) = row64(message.kind, message.code) else {
         return true;
     };
     if matches!(row.rest, Rest::Query) {
         return true;
     }
-    match read_inner6(alloc, embedded64(message)) {
+    match read_inner6(alloc, message.embedded()) {
         Ok(_inner) => true,
         Err(_) => false,
     }

@@ -4,6 +4,7 @@
 mod drawn;
 mod edge;
 mod icmp;
+mod kept;
 mod machine;
 mod notes;
 mod packet;
@@ -39,6 +40,7 @@ impl Calls for Hops {
             "relay" | "book" | "frag_of" | "stripe_of" | "relay_hop" => {
                 self.relay.answer(alloc, verb, words, said)
             }
+            "hop" => kept::answer(alloc, words, said),
             "packet4" | "packet6" => packet::answer(alloc, verb, words, said),
             "whole46" | "whole64" => translation::answer(alloc, verb, words, said),
             "icmp46" | "icmp64" => icmp::answer(alloc, verb, words, said),

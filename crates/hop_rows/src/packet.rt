@@ -2,8 +2,9 @@
 
 use crate::notes::say_key;
 use crate::sent::{say_fault, say_proto};
-use icmp_xlat::Row;
-use packets::{Content4, Content6, Flow, Packet4, Packet6};
+use icmp_messages::Row;
+use octets::{Fault, NoMemory};
+use packets::{Content4, Content6, Flow, Found, Packet4, Packet6};
 use rows::{RowFault, Said, Words};
 use std::alloc::Global;
 
@@ -54,13 +55,16 @@ fn packet4(alloc: Global, words: &mut Words<'_>, said: &mut Said) -> Result<(), 
     let way = words.eight()?;
     let octets = words.octets(alloc)?;
     match Packet4::read(alloc, octets.as_slice()) {
-        Ok(packet) => {
+        Ok(Found::Taken(packet)) => {
             say_content4(said, &packet.content)?;
             say_flow(said, &packet.flow())?;
             said.shown(&packet.extent())?;
             say_key(alloc, said, &packet.key(way))
         }
-        Err(fault) => say_fault(said, fault),
+        Ok(Found::Unreadable(cause) | Found::Dropped(cause, _)) => {
+            say_fault(said, Fault::Drop(cause))
+        }
+        Err(NoMemory) => say_fault(said, Fault::NoMemory),
     }
 }
 
@@ -70,13 +74,16 @@ fn packet6(alloc: Global, words: &mut Words<'_>, said: &mut Said) -> Result<(), 
     let at_relay = words.flag()?;
     let octets = words.octets(alloc)?;
     match Packet6::read(alloc, octets.as_slice(), at_relay) {
-        Ok(packet) => {
+        Ok(Found::Taken(packet)) => {
             say_content6(said, &packet.content)?;
             say_flow(said, &packet.flow())?;
             said.shown(&packet.extent())?;
             say_key(alloc, said, &packet.key(way))
         }
-        Err(fault) => say_fault(said, fault),
+        Ok(Found::Unreadable(cause) | Found::Dropped(cause, _)) => {
+            say_fault(said, Fault::Drop(cause))
+        }
+        Err(NoMemory) => say_fault(said, Fault::NoMemory),
     }
 }
 

@@ -1,11 +1,11 @@
 //! What a call answers, in words.
 
+use hops::{Hop, Out};
 use octets::{Bytes, Cause, Fault, NoMemory, Proto};
-use packet_faults::{Hop, Out};
 use rows::{RowFault, Said};
 
 /// Says a packet that a hop sends: where to, and its octets.
-fn say_out(said: &mut Said, out: &Out) -> Result<(), RowFault> {
+pub fn say_out(said: &mut Said, out: &Out) -> Result<(), RowFault> {
     let (exit, octets) = match out {
         Out::Lan(octets) => ("lan", octets),
         Out::Access(octets) => ("access", octets),

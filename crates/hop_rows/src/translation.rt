@@ -9,7 +9,7 @@ ghost use Rattle.xlat64.specs.Whole.{IsAccepted64};
 use crate::drawn::ports;
 use crate::sent::{say_unmet, say_written};
 use l4_headers::Ports;
-use packets::{Content4, Content6, Packet4, Packet6};
+use packets::{Content4, Content6, Found, Packet4, Packet6};
 use rows::{RowFault, Said, Words};
 use std::alloc::Global;
 use xlat46::whole46;
@@ -40,8 +40,8 @@ fn is_accepted46(alloc: Global, octets: &[u8], ports: Option<Ports>) -> bool
     ensures { IsTrue result → IsAccepted46 octets.now ports }
 {
     match Packet4::read(alloc, octets) {
-        Ok(packet) => may_pass46(&packet, ports),
-        Err(_) => false,
+        Ok(Found::Taken(packet)) => may_pass46(&packet, ports),
+        _ => false,
     }
 }
 
@@ -64,8 +64,8 @@ fn is_accepted64(alloc: Global, octets: &[u8], ports: Option<Ports>) -> bool
     ensures { IsTrue result → IsAccepted64 octets.now ports }
 {
     match Packet6::read(alloc, octets, false) {
-        Ok(packet) => may_pass64(&packet, ports),
-        Err(_) => false,
+        Ok(Found::Taken(packet)) => may_pass64(&packet, ports),
+        _ => false,
     }
 }
 

@@ -1,7 +1,8 @@
 //! Packets that an edge turns.
 
 use crate::sent::{say_fault, say_unmet, say_written};
-use packets::Packet4;
+use octets::{Fault, NoMemory};
+use packets::{Found, Packet4};
 use rows::{RowFault, Said, Words};
 use std::alloc::Global;
 use turned_packets::{turned_in, turned_out};
@@ -12,14 +13,17 @@ fn sent(alloc: Global, words: &mut Words<'_>, said: &mut Said) -> Result<(), Row
     let from = words.addr4()?;
     let port = words.sixteen()?;
     match Packet4::read(alloc, octets.as_slice()) {
-        Ok(packet) => {
+        Ok(Found::Taken(packet)) => {
             if packet.head.ttl == 0 {
                 return say_unmet(said);
             }
             let written = turned_out(alloc, &packet, octets.as_slice(), from, port);
             say_written(said, written)
         }
-        Err(fault) => say_fault(said, fault),
+        Ok(Found::Unreadable(cause) | Found::Dropped(cause, _)) => {
+            say_fault(said, Fault::Drop(cause))
+        }
+        Err(NoMemory) => say_fault(said, Fault::NoMemory),
     }
 }
 
@@ -29,8 +33,14 @@ fn received(alloc: Global, words: &mut Words<'_>, said: &mut Said) -> Result<(),
     let to = words.addr4()?;
     let port = words.sixteen()?;
     match Packet4::read(alloc, octets.as_slice()) {
-        Ok(packet) => say_written(said, turned_in(alloc, &packet, octets.as_slice(), to, port)),
-        Err(fault) => say_fault(said, fault),
+        Ok(Found::Taken(packet)) => say_written(
+            said,
+            turned_in(alloc, &packet, octets.as_slice(), to, port),
+        ),
+        Ok(Found::Unreadable(cause) | Found::Dropped(cause, _)) => {
+            say_fault(said, Fault::Drop(cause))
+        }
+        Err(NoMemory) => say_fault(said, Fault::NoMemory),
     }
 }
 

@@ -1,2 +1,5 @@
+pub mod Extension
 pub mod Inner
 pub mod Message
+pub mod Rows
+pub mod Table

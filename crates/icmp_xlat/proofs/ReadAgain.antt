@@ -32,20 +32,22 @@ use Rattle.icmp_messages.specs.declared.inner4.Inner4.{Inner4}
 use Rattle.icmp_messages.specs.declared.inner6.Inner6.{Inner6}
 use Rattle.icmp_messages.specs.Inner.{IsCarried4, IsCarried6, IsInner4, IsInner6}
 use Rattle.xlat46.specs.Fits.{FitsHead}
-use Rattle.xlat46.specs.Head.{is_fragment, upper_protocol}
+use Rattle.xlat46.specs.Head.{upper_protocol}
+use Rattle.ip4_packet.specs.Fragment.{is_fragment}
 use Rattle.xlat46.specs.Whole.{ArePorts}
 use Rattle.xlat46.proofs.Placed.{placed}
 use Rattle.xlat64.specs.Head.{protocol_of, identification}
-use Rattle.icmp_xlat.specs.declared.ends.Ends.{Ends}
-use Rattle.icmp_xlat.specs.declared.table.Row.{Row}
-use Rattle.icmp_xlat.specs.declared.table.Rest.{Rest}
-use Rattle.icmp_xlat.specs.declared.table.Rest.TheVariants.{Query, Zero, Protocol, Mtu, Pointer}
-use Rattle.icmp_xlat.specs.Icmp46.{rest46, embedded46, error46}
-use Rattle.icmp_xlat.specs.Icmp64.{rest64, embedded64, error64}
+use Rattle.l4_headers.specs.declared.ends.Ends.{Ends}
+use Rattle.icmp_messages.specs.declared.table.Row.{Row}
+use Rattle.icmp_messages.specs.declared.table.Rest.{Rest}
+use Rattle.icmp_messages.specs.declared.table.Rest.TheVariants.{Query, Zero, Protocol, Mtu, Pointer}
+use Rattle.icmp_xlat.specs.Icmp46.{rest46, error46}
+use Rattle.icmp_messages.specs.Extension.{embedded46, embedded64}
+use Rattle.icmp_xlat.specs.Icmp64.{rest64, error64}
 use Rattle.icmp_xlat.specs.Inner.{Change, inner_echo, inner_payload, echo46, echo64, change46, change64, inner_head46, inner_head64, inner46, inner64}
 use Rattle.icmp_xlat.specs.Moved.{ports_of, moved46, moved64, held6, FitsInnerEnds6, FitsInnerEnds4}
 use Rattle.icmp_xlat.specs.Mtu.{mtu64}
-use Rattle.icmp_xlat.specs.Table.{row_of, table46, pointer_of, pointers64}
+use Rattle.icmp_messages.specs.Table.{row_of, table46, pointer_of, pointers64}
 use Rattle.icmp_xlat.proofs.Rows.{no_length}
 
 -- ---- the payload

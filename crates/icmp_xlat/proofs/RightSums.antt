@@ -22,7 +22,7 @@ use Rattle.icmp_messages.specs.Inner.{IsCarried4, IsCarried6}
 use Rattle.xlat46.specs.Head.{upper_protocol}
 use Rattle.xlat46.specs.Whole.{ArePorts}
 use Rattle.xlat64.specs.Head.{protocol_of, total_of}
-use Rattle.icmp_xlat.specs.declared.ends.Ends.{Ends}
+use Rattle.l4_headers.specs.declared.ends.Ends.{Ends}
 use Rattle.icmp_xlat.specs.Inner.{Change, inner_tcp, inner_udp, inner_echo, echo_sum, inner_payload, echo46, echo64, change46, change64, Stands4, Stands6}
 use Rattle.icmp_xlat.specs.Moved.{moved46, moved64}
 use Rattle.icmp_xlat.specs.Sums.{outside4, outside6, IsRightIn4, IsRightIn6, HasSum, IsZeroEcho}

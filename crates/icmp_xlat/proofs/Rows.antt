@@ -1,9 +1,9 @@
 -- Which rows the tables of ICMP types have.
 use Rattle.std.proofs.Common.{◌≡◌, ◌⊎◌, ℕ, Bool, true, false, cond, List, [], ◌∷◌, Option, Some, None, inl, inr, refl, subst}
 use Rattle.std.specs.Prelude.{◌==◌, ◌&&◌, ◌||◌}
-use Rattle.icmp_xlat.specs.declared.table.Row.{Row}
-use Rattle.icmp_xlat.specs.declared.table.Rest.TheVariants.{Zero}
-use Rattle.icmp_xlat.specs.Table.{row_of, table46}
+use Rattle.icmp_messages.specs.declared.table.Row.{Row}
+use Rattle.icmp_messages.specs.declared.table.Rest.TheVariants.{Zero}
+use Rattle.icmp_messages.specs.Table.{row_of, table46}
 
 -- each row is so
 abbrev pub AllRows : (Row → Type 0) → List Row → Type 0

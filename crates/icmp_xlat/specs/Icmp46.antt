@@ -1,5 +1,5 @@
 -- An ICMPv4 packet translated to ICMPv6 (after RFC 7915, sections 4.2 and 4.3). Sums are made anew.
-use Rattle.std.specs.Prelude.{◌≡◌, ℕ, ◌+◌, ◌*◌, ◌/◌, ◌%◌, ◌^◌, ◌≤◌, ◌⊎◌, false, ◌==◌, if◌then◌else◌, List, length, take, Option, Some, None, Result, Err, IfOk, IfErr, IsErr}
+use Rattle.std.specs.Prelude.{◌≡◌, ℕ, ◌+◌, ◌*◌, ◌/◌, ◌%◌, ◌^◌, ◌≤◌, ◌⊎◌, false, List, length, take, Option, Some, None, Result, Err, IfOk, IfErr, IsErr}
 use Rattle.octets.specs.declared.address.Addr6.{Addr6}
 use Rattle.octets.specs.declared.mtus.Mtus.{Mtus}
 use Rattle.octets.specs.declared.cause.Cause.TheVariants.{IcmpKind}
@@ -14,12 +14,15 @@ use Rattle.icmp_messages.specs.declared.icmp6.Icmp6.{Icmp6}
 use Rattle.icmp_messages.specs.declared.inner4.Inner4.{Inner4}
 use Rattle.icmp_messages.specs.Message.{IsIcmp4, message6}
 use Rattle.icmp_messages.specs.Inner.{IsInner4}
-use Rattle.xlat46.specs.Head.{is_fragment, translated}
-use Rattle.icmp_xlat.specs.declared.ends.Ends.{Ends}
-use Rattle.icmp_xlat.specs.declared.table.Row.{Row}
-use Rattle.icmp_xlat.specs.declared.table.Rest.{Rest}
-use Rattle.icmp_xlat.specs.declared.table.Rest.TheVariants.{Query, Zero, Protocol, Mtu, Pointer}
-use Rattle.icmp_xlat.specs.Table.{table46, row_of, pointers46, pointer_of}
+use Rattle.xlat46.specs.Head.{translated}
+use Rattle.ip4_packet.specs.Fragment.{is_fragment}
+use Rattle.l4_headers.specs.declared.ends.Ends.{Ends}
+use Rattle.icmp_messages.specs.declared.table.Row.{Row}
+use Rattle.icmp_messages.specs.declared.table.Rest.{Rest}
+use Rattle.icmp_messages.specs.declared.table.Rest.TheVariants.{Query, Zero, Protocol, Mtu, Pointer}
+use Rattle.icmp_messages.specs.Table.{table46, row_of, pointers46, pointer_of}
+use Rattle.icmp_messages.specs.Extension.{embedded46}
+use Rattle.icmp_messages.specs.Rows.{HasNoRow46, MayEmbed46}
 use Rattle.icmp_xlat.specs.Mtu.{mtu46}
 use Rattle.icmp_xlat.specs.Inner.{inner46}
 
@@ -32,13 +35,6 @@ rest46 mtus total rest Zero = Some 0
 rest46 mtus total rest Protocol = Some 6
 rest46 mtus total rest Mtu = Some (mtu46 mtus total (rest % 2 ^ 16))
 rest46 mtus total rest Pointer = pointer_of pointers46 (rest / 2 ^ 24)
-
--- The embedded packet of an ICMPv4 error: its body, or as many words of 32 bits as its length octet says, which is
--- the second behind the sum, where it isn't 0. What follows is an extension, and is dropped (RFC 4884).
-abbrev pub embedded46 : Icmp4 → List ℕ
-embedded46 m =
-    let words = m.rest / 2 ^ 16 % 256 in
-    if words == 0 then m.body else take (4 * words) m.body
 
 -- a query: its identifier becomes the source port, its sequence and data stay
 abbrev pub query46 : Icmp4 → Row → Ends Addr6 → Icmp6
@@ -65,23 +61,6 @@ pub record IsMessage46 (head : Head4) (m : Icmp4) (octets : List ℕ) : Type 0 w
   pub unrouted : head.routed ≡ false
   pub whole : is_fragment head ≡ false
   pub message : IsIcmp4 m (payload_of4 head octets)
-
--- the message has no translation: no row of the table, or no row of the table of pointers
-abbrev pub LacksPointer46 : Icmp4 → Option Row → Type 0
-LacksPointer46 m None = Unit {0}
-LacksPointer46 m (Some row) = (row.rest ≡ Pointer) × (pointer_of pointers46 (m.rest / 2 ^ 24) ≡ None)
-
-abbrev pub HasNoRow46 : Icmp4 → Type 0
-HasNoRow46 m = LacksPointer46 m (row_of table46 m.kind m.code)
-
--- a message of this row, that is no query, embeds a packet
-abbrev pub EmbedsOne46 : Icmp4 → Option Row → Type 0
-EmbedsOne46 m None = Unit {0}
-EmbedsOne46 m (Some row) = (row.rest ≡ Query) ⊎ ((inner : Inner4) × IsInner4 inner (embedded46 m))
-
--- a message that has a translation, and is no query, embeds a packet; of one that has none nothing is asked
-abbrev pub MayEmbed46 : Icmp4 → Type 0
-MayEmbed46 m = (HasNoRow46 m → ⊥) → EmbedsOne46 m (row_of table46 m.kind m.code)
 
 -- The answer to a packet of this header and message. A query and an error are answered by the packet with their
 -- translated message; IcmpKind comes exactly where a message has no translation, but for want of memory.

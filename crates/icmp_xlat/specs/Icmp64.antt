@@ -1,5 +1,5 @@
 -- An ICMPv6 packet translated to ICMPv4 (after RFC 7915, sections 5.2 and 5.3). Sums are made anew.
-use Rattle.std.specs.Prelude.{◌≡◌, ℕ, ◌+◌, ◌*◌, ◌/◌, ◌%◌, ◌^◌, ◌≤◌, ◌⊎◌, false, not, ◌==◌, ◌||◌, ◌&&◌, if◌then◌else◌, List, length, take, Option, Some, None, Result, Err, IfOk, IfErr, IsErr}
+use Rattle.std.specs.Prelude.{◌≡◌, ℕ, ◌+◌, ◌*◌, ◌%◌, ◌^◌, ◌≤◌, ◌⊎◌, false, List, length, Option, Some, None, Result, Err, IfOk, IfErr, IsErr}
 use Rattle.std.specs.Option.{option_map}
 use Rattle.octets.specs.declared.address.Addr4.{Addr4}
 use Rattle.octets.specs.declared.mtus.Mtus.{Mtus}
@@ -17,11 +17,14 @@ use Rattle.icmp_messages.specs.declared.inner6.Inner6.{Inner6}
 use Rattle.icmp_messages.specs.Message.{IsIcmp6, message4}
 use Rattle.icmp_messages.specs.Inner.{IsEcho6, IsInner6}
 use Rattle.xlat64.specs.Head.{translated}
-use Rattle.icmp_xlat.specs.declared.ends.Ends.{Ends}
-use Rattle.icmp_xlat.specs.declared.table.Row.{Row}
-use Rattle.icmp_xlat.specs.declared.table.Rest.{Rest}
-use Rattle.icmp_xlat.specs.declared.table.Rest.TheVariants.{Query, Zero, Protocol, Mtu, Pointer}
-use Rattle.icmp_xlat.specs.Table.{table64, row_of, pointers64, pointer_of}
+use Rattle.l4_headers.specs.declared.ends.Ends.{Ends}
+use Rattle.icmp_messages.specs.declared.table.Row.{Row}
+use Rattle.icmp_messages.specs.declared.table.Rest.{Rest}
+use Rattle.icmp_messages.specs.declared.table.Rest.TheVariants.{Query, Zero, Protocol, Mtu, Pointer}
+use Rattle.icmp_messages.specs.Table.{table64, row_of, pointers64, pointer_of}
+use Rattle.icmp_xlat.specs.declared.passing.Passing.{Passing}
+use Rattle.icmp_messages.specs.Extension.{embedded64}
+use Rattle.icmp_messages.specs.Rows.{HasNoRow64, MayEmbed64}
 use Rattle.icmp_xlat.specs.Mtu.{mtu64}
 use Rattle.icmp_xlat.specs.Inner.{inner64}
 
@@ -33,13 +36,6 @@ rest64 mtus rest Zero = Some 0
 rest64 mtus rest Protocol = Some 0
 rest64 mtus rest Mtu = Some (mtu64 mtus rest)
 rest64 mtus rest Pointer = option_map (λ pointer. pointer * 2 ^ 24) (pointer_of pointers64 rest)
-
--- The embedded packet of an ICMPv6 error: its body, or of types 1 and 3 as many words of 64 bits as its length octet
--- says, which is the first behind the sum, where it isn't 0. What follows is an extension, and is dropped (RFC 4884).
-abbrev pub embedded64 : Icmp6 → List ℕ
-embedded64 m =
-    let words = m.rest / 2 ^ 24 in
-    if (m.kind == 1 || m.kind == 3) && not (words == 0) then take (8 * words) m.body else m.body
 
 -- a query: its identifier becomes the source port, its sequence and data stay
 abbrev pub query64 : Icmp6 → Row → Ends Addr4 → Icmp4
@@ -67,31 +63,14 @@ pub record IsMessage64 (head : Head6) (m : Icmp6) (octets : List ℕ) : Type 0 w
   pub whole : more_fragments head.frag ≡ false
   pub message : IsIcmp6 head.src head.dst m (payload_of6 head octets)
 
--- the message has no translation: no row of the table, or no row of the table of pointers
-abbrev pub LacksPointer64 : Icmp6 → Option Row → Type 0
-LacksPointer64 m None = Unit {0}
-LacksPointer64 m (Some row) = (row.rest ≡ Pointer) × (pointer_of pointers64 m.rest ≡ None)
-
-abbrev pub HasNoRow64 : Icmp6 → Type 0
-HasNoRow64 m = LacksPointer64 m (row_of table64 m.kind m.code)
-
--- a message of this row, that is no query, embeds a packet
-abbrev pub EmbedsOne64 : Icmp6 → Option Row → Type 0
-EmbedsOne64 m None = Unit {0}
-EmbedsOne64 m (Some row) = (row.rest ≡ Query) ⊎ ((inner : Inner6) × IsInner6 inner (embedded64 m))
-
--- a message that has a translation, and is no query, embeds a packet; of one that has none nothing is asked
-abbrev pub MayEmbed64 : Icmp6 → Type 0
-MayEmbed64 m = (HasNoRow64 m → ⊥) → EmbedsOne64 m (row_of table64 m.kind m.code)
-
 -- The answer to a packet of these headers and this message. A query and an error are answered by the packet with their
 -- translated message; IcmpKind comes exactly where a message has no translation, but for want of memory.
-pub record IsAnswer64 (mtus : Mtus) (head : Head6) (m : Icmp6) (ends : Ends Addr4) (id : ℕ) (result : Result (List ℕ) Fault) : Type 0 where
+pub record IsAnswer64 (by : Passing Addr4) (head : Head6) (m : Icmp6) (result : Result (List ℕ) Fault) : Type 0 where
   pub query : (row : Row) → row_of table64 m.kind m.code ≡ Some row → row.rest ≡ Query
-      → IfOk result (λ octets. octets ≡ with_message64 head (query64 m row ends) ends id)
+      → IfOk result (λ octets. octets ≡ with_message64 head (query64 m row by.ends) by.ends by.id)
   pub error : (row : Row) (inner : Inner6) (rest : ℕ) → row_of table64 m.kind m.code ≡ Some row → IsInner6 inner (embedded64 m)
-      → rest64 mtus m.rest row.rest ≡ Some rest
-      → IfOk result (λ octets. octets ≡ with_message64 head (error64 row rest inner ends) ends id)
+      → rest64 by.mtus m.rest row.rest ≡ Some rest
+      → IfOk result (λ octets. octets ≡ with_message64 head (error64 row rest inner by.ends) by.ends by.id)
   pub refused : result ≡ Err (Drop IcmpKind) → HasNoRow64 m
   pub lacking : HasNoRow64 m → IsErr result
   pub no_other : IfErr result (λ fault. (fault ≡ Drop IcmpKind) ⊎ (fault ≡ NoMemory))

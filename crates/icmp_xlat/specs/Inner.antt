@@ -23,7 +23,7 @@ use Rattle.xlat46.specs.Head.{translated as translated46}
 use Rattle.xlat46.specs.Whole.{addresses_before as addresses4, addresses_after as addresses_of6}
 use Rattle.xlat64.specs.Head.{translated as translated64}
 use Rattle.xlat64.specs.Whole.{addresses_before as addresses6, addresses_after as addresses_of4}
-use Rattle.icmp_xlat.specs.declared.ends.Ends.{Ends}
+use Rattle.l4_headers.specs.declared.ends.Ends.{Ends}
 
 -- what changes in an embedded packet: the sum of the words outside its payload that its sum covers, before and after; its ports;
 -- and the type of an echo

@@ -5,4 +5,3 @@ pub mod Inside
 pub mod Moved
 pub mod Mtu
 pub mod Sums
-pub mod Table

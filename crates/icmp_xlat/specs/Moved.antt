@@ -9,7 +9,7 @@ use Rattle.l4_headers.specs.declared.ports.Ports.{Ports}
 use Rattle.icmp_messages.specs.declared.inner4.Inner4.{Inner4}
 use Rattle.icmp_messages.specs.declared.inner6.Inner6.{Inner6}
 use Rattle.xlat46.specs.Whole.{ArePorts}
-use Rattle.icmp_xlat.specs.declared.ends.Ends.{Ends}
+use Rattle.l4_headers.specs.declared.ends.Ends.{Ends}
 use Rattle.icmp_xlat.specs.Inner.{inner_payload, change46, change64, inner_head46, inner_head64}
 
 -- its ports: both ports of an echo are its identifier

@@ -9,7 +9,7 @@ use Rattle.inet_sum.specs.Sum.{words, folded}
 use Rattle.l4_headers.specs.PseudoHeader.{pseudo_header4, pseudo_header6}
 use Rattle.icmp_messages.specs.declared.inner4.Inner4.{Inner4}
 use Rattle.icmp_messages.specs.declared.inner6.Inner6.{Inner6}
-use Rattle.icmp_xlat.specs.declared.ends.Ends.{Ends}
+use Rattle.l4_headers.specs.declared.ends.Ends.{Ends}
 use Rattle.icmp_xlat.specs.Inner.{echo64}
 
 -- the words outside the payload: the pseudo header, but for an echo of ICMPv4, whose sum covers none (RFC 792)

@@ -1,62 +1,49 @@
 //! ICMPv6 packets translated to ICMPv4 (after RFC 7915, sections 5.2 and 5.3).
-ghost use Rattle.std.specs.Prelude.{◌≡◌, ◌≤◌, ◌⊎◌, ◌↔◌, ℕ, false, length, min, Some, IfSome, IsNone, IfOk, IfErr, IsErr, Err};
-ghost use Rattle.octets.specs.declared.cause.Cause.TheVariants.{IcmpKind};
-ghost use Rattle.octets.specs.declared.cause.Fault.TheVariants.{Drop as Dropped, NoMemory as WantsMemory};
+ghost use Rattle.std.specs.Prelude.{◌≡◌, ◌≢◌, ◌+◌, ◌/◌, ◌^◌, ◌<◌, ◌≤◌, ℕ, false, length, min, take, Some, None, IfOk, IfErr};
+ghost use Rattle.std.specs.Option.{option_map};
+ghost use Rattle.octets.specs.declared.cause.Fault.TheVariants.{NoMemory as WantsMemory};
 ghost use Rattle.ip6_packet.specs.declared.head.Head6.{Head6 as Header};
 ghost use Rattle.ip6_packet.specs.Fragment.{fragment_offset};
 ghost use Rattle.icmp_messages.specs.declared.icmp6.Icmp6.{Icmp6 as Message};
 ghost use Rattle.icmp_messages.specs.declared.inner6.Inner6.{Inner6 as Inner};
 ghost use Rattle.icmp_messages.specs.Inner.{IsInner6};
-ghost use Rattle.icmp_xlat.specs.Table.{row_of, table64};
-ghost use Rattle.icmp_xlat.specs.declared.table.Rest.TheVariants.{Query as QueryRest};
+ghost use Rattle.icmp_messages.specs.Table.{pointer_of, pointers64};
+ghost use Rattle.icmp_messages.specs.declared.table.Rest.TheVariants.{Query as QueryRest, Pointer as PointerRest};
 ghost use Rattle.icmp_xlat.specs.Inner.{Stands6};
-ghost use Rattle.icmp_xlat.specs.Icmp64.{rest64, embedded64, query64, error64, with_message64, LacksPointer64, HasNoRow64, EmbedsOne64, MayEmbed64, IsMessage64, IsAnswer64, IsAccepted64};
+ghost use Rattle.icmp_xlat.specs.Icmp64.{rest64, query64, error64, with_message64, IsMessage64, IsAnswer64, IsAccepted64};
+ghost use Rattle.icmp_messages.specs.Extension.{embedded64};
+ghost use Rattle.icmp_messages.specs.Rows.{LacksPointer64, EmbedsOne64, MayEmbed64};
 
 use crate::Ends;
 use crate::inner::inner64;
 use crate::mtu::mtu64;
-use crate::table::{Rest, Row, pointer64, row64};
-use icmp_messages::{Icmp4, Icmp6, Inner6, read_inner6};
+use crate::passing::Passing;
+use icmp_messages::{Icmp4, Icmp6, Inner6, Rest, Row, pointer64, read_inner6};
 use ip6_packet::Head6;
 use octets::{Addr4, Bytes, Cause, Fault, Mtus, NoMemory};
 use std::alloc::Global;
 use xlat64::head64;
 
-/// The types whose messages may have an extension: destination unreachable and time exceeded (RFC 4884, section 4).
-const UNREACHABLE: u8 = 1;
-
-const TIME_EXCEEDED: u8 = 3;
-
-/// The embedded packet, without an extension behind it (RFC 4884).
-pub fn embedded64(message: &Icmp6) -> &[u8]
-    ensures { result.now ≡ embedded64 message.now }
-{
-    let body = message.body.as_slice();
-    let words = message.rest >> 24;
-    if (message.kind == UNREACHABLE || message.kind == TIME_EXCEEDED) && words != 0 {
-        &body[..body.len().min(8 * words as usize)]
-    } else {
-        body
-    }
-}
-
-/// The four octets behind the sum of an error. None for a pointer without a row.
-fn rest64(mtus: Mtus, rest: u32, kind: Rest) -> Option<u32>
-    ensures { result ≡ rest64 mtus rest kind }
+/// The four octets behind the sum of an error, whose pointer has a row.
+fn rest64(mtus: Mtus, rest: u32, kind: Rest) -> u32
+    requires no_query { kind ≢ QueryRest }
+    requires pointer { kind ≡ PointerRest → pointer_of pointers64 rest ≢ None }
+    ensures { rest64 mtus rest kind ≡ Some result }
 {
     match kind {
-        Rest::Query => None,
-        Rest::Zero | Rest::Protocol => Some(0),
-        Rest::Mtu => Some(u32::from(mtu64(mtus, rest))),
-        Rest::Pointer => match pointer64(rest) {
-            Some(pointer) => Some(pointer * (1 << 24)),
-            None => None,
-        },
+        Rest::Query | Rest::Zero | Rest::Protocol => 0,
+        Rest::Mtu => u32::from(mtu64(mtus, rest)),
+        Rest::Pointer => pointer64(rest).unwrap_or(0) * (1 << 24),
     }
 }
 
-/// A query with its new identifier.
-fn query64(alloc: Global, message: &Icmp6, row: Row, ends: &Ends<Addr4>) -> Result<Icmp4, NoMemory>
+/// A query with its new identifier, the source port.
+pub fn query64(
+    alloc: Global,
+    message: &Icmp6,
+    row: Row,
+    ends: &Ends<Addr4>,
+) -> Result<Icmp4, NoMemory>
     ensures { IfOk result (λ m. m ≡ query64 message.now row ends.now) }
 {
     Ok(Icmp4 {
@@ -67,22 +54,25 @@ fn query64(alloc: Global, message: &Icmp6, row: Row, ends: &Ends<Addr4>) -> Resu
     })
 }
 
-/// An error with these four octets behind its sum, about this embedded packet.
-fn error64(
+/// An error of this row about this embedded packet, whose pointer has a row (RFC 7915, sections 5.2 and 5.3). The embedded packet
+/// gets its inner ends and both ports.
+pub fn error64(
     alloc: Global,
+    passing: &Passing<Addr4>,
+    message: &Icmp6,
     row: Row,
-    rest: u32,
     inner: &Inner6,
-    ends: &Ends<Addr4>,
 ) -> Result<Icmp4, NoMemory>
-    requires { Stands6 inner.now }
-    ensures { IfOk result (λ m. m ≡ error64 row rest inner.now ends.now) }
+    requires embedded { Stands6 inner.now }
+    requires no_query { row.rest ≢ QueryRest }
+    requires pointer { LacksPointer64 message.now (Some row) → ⊥ }
+    ensures { IfOk result (λ m. option_map (λ rest. error64 row rest inner.now passing.now.ends) (rest64 passing.now.mtus message.now.rest row.rest) ≡ Some m) }
 {
     Ok(Icmp4 {
         kind: row.to_kind,
         code: row.to_code,
-        rest,
-        body: inner64(alloc, inner, ends)?,
+        rest: rest64(passing.mtus, message.rest, row.rest),
+        body: inner64(alloc, inner, &passing.ends)?,
     })
 }
 
@@ -93,8 +83,8 @@ fn declared(len: usize) -> u16
     len.min(usize::from(u16::MAX)) as u16
 }
 
-/// The packet with this message in place of its own.
-fn with_message64(
+/// The packet of these headers with this message in place of its own, between these ends.
+pub fn with_message64(
     alloc: Global,
     head: &Head6,
     message: &Icmp4,
@@ -115,64 +105,44 @@ fn with_message64(
     Ok(packet)
 }
 
-/// The message translated. `IcmpKind` exactly for a pointer without a row.
+/// The message translated by its row.
 fn translated64(
     alloc: Global,
-    mtus: Mtus,
+    passing: &Passing<Addr4>,
     message: &Icmp6,
     row: Row,
-    ends: &Ends<Addr4>,
 ) -> Result<Icmp4, Fault>
     requires embeds { EmbedsOne64 message.now (Some row) }
-    ensures query { row.rest ≡ QueryRest → IfOk result (λ m. m ≡ query64 message.now row ends.now) }
-    ensures error { (inner : Inner) (rest : ℕ) → IsInner6 inner (embedded64 message.now) → rest64 mtus message.now.rest row.rest ≡ Some rest → IfOk result (λ m. m ≡ error64 row rest inner ends.now) }
-    ensures refused { result ≡ Err (Dropped IcmpKind) → LacksPointer64 message.now (Some row) }
-    ensures lacking { LacksPointer64 message.now (Some row) → IsErr result }
-    ensures no_other { IfErr result (λ f. (f ≡ Dropped IcmpKind) ⊎ (f ≡ WantsMemory)) }
+    requires pointer { LacksPointer64 message.now (Some row) → ⊥ }
+    ensures query { row.rest ≡ QueryRest → IfOk result (λ m. m ≡ query64 message.now row passing.now.ends) }
+    ensures error { (inner : Inner) (rest : ℕ) → IsInner6 inner (embedded64 message.now) → rest64 passing.now.mtus message.now.rest row.rest ≡ Some rest → IfOk result (λ m. m ≡ error64 row rest inner passing.now.ends) }
+    ensures no_other { IfErr result (λ f. f ≡ WantsMemory) }
 {
     if matches!(row.rest, Rest::Query) {
-        return Ok(query64(alloc, message, row, ends)?);
+        return Ok(query64(alloc, message, row, &passing.ends)?);
     }
-    let inner = read_inner6(alloc, embedded64(message))?;
-    let Some(rest) = rest64(mtus, message.rest, row.rest) else {
-        return Err(Fault::Drop(Cause::IcmpKind));
-    };
-    Ok(error64(alloc, row, rest, &inner, ends)?)
+    let inner = read_inner6(alloc, message.embedded())?;
+    Ok(error64(alloc, passing, message, row, &inner)?)
 }
 
-/// The row by which a message is translated. None exactly where it has no translation: no row for its type and code,
-/// or none for its pointer.
-pub fn translation64(message: &Icmp6) -> Option<Row>
-    ensures found { IfSome result (λ row. row_of table64 message.now.kind message.now.code ≡ Some row) }
-    ensures none { IsNone result ↔ HasNoRow64 message.now }
-{
-    let row = row64(message.kind, message.code)?;
-    if matches!(row.rest, Rest::Pointer) && pointer64(message.rest).is_none() {
-        return None;
-    }
-    Some(row)
-}
-
-/// The packet of these headers with this message, translated to ICMPv4 as `icmp64` translates a packet that isn't read
-/// yet. What a message embeds that has no translation isn't looked at.
-pub fn answer64(
+/// The packet of these headers with this message, translated to ICMPv4. What a message embeds that has no translation isn't looked
+/// at.
+fn answer64(
     alloc: Global,
-    mtus: Mtus,
+    passing: &Passing<Addr4>,
     head: &Head6,
     message: &Icmp6,
-    ends: &Ends<Addr4>,
-    id: u16,
 ) -> Result<Bytes, Fault>
     requires alive { 1 ≤ head.now.hop }
     requires offset { fragment_offset head.now.frag ≡ 0 }
     requires embeds { MayEmbed64 message.now }
-    ensures { IsAnswer64 mtus head.now message.now ends.now id result }
+    ensures { IsAnswer64 passing.now head.now message.now result }
 {
-    let Some(row) = translation64(message) else {
+    let Some(row) = message.row() else {
         return Err(Fault::Drop(Cause::IcmpKind));
     };
-    let translated = translated64(alloc, mtus, message, row, ends)?;
-    Ok(with_message64(alloc, head, &translated, ends, id)?)
+    let translated = translated64(alloc, passing, message, row)?;
+    Ok(with_message64(alloc, head, &translated, &passing.ends, passing.id)?)
 }
 
 /// The ICMPv6 packet translated to ICMPv4, with these addresses and ports (after RFC 7915, sections 5.2 and 5.3). A
@@ -191,11 +161,14 @@ pub fn icmp64(
     id: u16,
 ) -> Result<Bytes, Fault>
     requires { IsAccepted64 packet.now }
-    ensures { (head : Header) (m : Message) → IsMessage64 head m packet.now → IsAnswer64 mtus head m ends.now id result }
+    ensures { (head : Header) (m : Message) → IsMessage64 head m packet.now → IsAnswer64 (record { mtus = mtus; ends = ends.now; id = id }) head m result }
 {
-    let Ok(head) = Head6::read(packet) else {
-        unreachable!();
-    };
+    let head = Head6::accepted(packet);
     let message = Icmp6::read(alloc, head.src, head.dst, head.payload(packet))?;
-    answer64(alloc, mtus, &head, &message, ends, id)
+    let passing = Passing {
+        mtus,
+        ends: *ends,
+        id,
+    };
+    answer64(alloc, &passing, &head, &message)
 }

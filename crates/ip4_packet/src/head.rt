@@ -1,5 +1,6 @@
 ghost use Rattle.std.specs.Prelude.{◌≡◌, ◌+◌, ◌<◌, ◌≤◌, length, IfOk, false};
 ghost use Rattle.ip4_packet.specs.Written.{written4, header4, header_with, fragment_field, IsInRange};
+ghost use Rattle.ip4_packet.specs.Fragment.{is_fragment};
 ghost use Rattle.ip4_packet.specs.Grammar.{Is4};
 ghost use Rattle.ip4_packet.specs.Causes.{HasNoHeaderCause4, IsSound4};
 
@@ -90,6 +91,13 @@ impl Head4 {
         let check = inet_sum::check_of(inet_sum::sum(&header));
         BigEndian::write_u16(&mut header[SUM_AT..], check);
         header
+    }
+
+    /// Whether this is a fragment: more follow, or it is a later one (RFC 791, section 3.2).
+    pub fn is_fragment(&self) -> bool
+        ensures { result ≡ is_fragment self.now }
+    {
+        self.mf || self.offset != 0
     }
 
     /// The packet with these fields and this payload, in the one form that is written (RFC 791,

@@ -121,6 +121,18 @@ impl Head4 {
         decided(octets)
     }
 
+    /// The header of a packet that `read` accepts.
+    pub fn accepted(octets: &[u8]) -> Head4
+        requires { HasNoHeaderCause4 octets.now }
+        ensures found { Is4 result (payload_of4 result octets.now) octets.now }
+        ensures only { (h : Header) (payload : List ℕ) → Is4 h payload octets.now → h ≡ result }
+    {
+        let Ok(head) = Head4::read(octets) else {
+            unreachable!();
+        };
+        head
+    }
+
     /// The packet without the octets after its total length, which belong to no packet. Octets that are
     /// fewer stay as they are.
     pub fn trimmed<'a>(&self, octets: &'a [u8]) -> &'a [u8]

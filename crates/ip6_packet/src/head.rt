@@ -1,6 +1,6 @@
-ghost use Rattle.std.specs.Prelude.{◌≡◌, ◌^◌, ◌<◌, ◌≤◌, ◌++◌, length, IfOk, OnOk, None};
+ghost use Rattle.std.specs.Prelude.{◌≡◌, ◌^◌, ◌<◌, ◌≤◌, ◌↔◌, ◌++◌, IsTrue, length, IfOk, OnOk, None};
 ghost use Rattle.ip6_packet.specs.Written.{written6, fixed_header, fragment_header, fragment_part, IsUpper, IsPlaced, IsInRange, FitsFrag, IsPacket6};
-ghost use Rattle.ip6_packet.specs.Fragment.{fragment_offset, more_fragments};
+ghost use Rattle.ip6_packet.specs.Fragment.{fragment_offset, more_fragments, IsFragment6};
 ghost use Rattle.ip6_packet.specs.Grammar.{Is6};
 ghost use Rattle.ip6_packet.specs.Causes.{HasNoHeaderCause6, IsSound6};
 
@@ -123,6 +123,13 @@ impl Head6 {
             None => false,
             Some(frag) => frag.more,
         }
+    }
+
+    /// Whether this is a fragment: more follow, or it is a later one (RFC 8200, section 4.5).
+    pub fn is_fragment(&self) -> bool
+        ensures { IsTrue result ↔ IsFragment6 self.now }
+    {
+        self.more_fragments() || self.fragment_offset() != 0
     }
 
     /// The packet with these fields and this payload, in the one form that is written (RFC 8200,

@@ -93,6 +93,18 @@ impl Head6 {
         decided(octets)
     }
 
+    /// The headers of a packet that `read` accepts.
+    pub fn accepted(octets: &[u8]) -> Head6
+        requires { HasNoHeaderCause6 octets.now }
+        ensures found { Is6 result (payload_of6 result octets.now) octets.now }
+        ensures only { (h : Header) (payload : List ℕ) → Is6 h payload octets.now → h ≡ result }
+    {
+        let Ok(head) = Head6::read(octets) else {
+            unreachable!();
+        };
+        head
+    }
+
     /// The packet without the octets after its payload length, which belong to no packet. Octets that are
     /// fewer stay as they are.
     pub fn trimmed<'a>(&self, octets: &'a [u8]) -> &'a [u8]

@@ -1,3 +1,4 @@
 pub mod PseudoHeader
 pub mod Readdressed
+pub mod Segment
 pub mod Transport

@@ -1,5 +1,5 @@
 -- Transport headers by their fields: TCP (RFC 9293 section 3.1), UDP (RFC 768), ICMP (RFC 792, RFC 4443).
-use Rattle.std.specs.Prelude.{◌≢◌, ℕ, ◌*◌, ◌/◌, ◌<◌, ◌⊎◌, Bool, IsTrue, ◌==◌, ◌||◌, if◌then◌else◌, List, length}
+use Rattle.std.specs.Prelude.{◌≢◌, ℕ, ◌*◌, ◌/◌, ◌<◌, ◌⊎◌, Bool, IsTrue, ◌==◌, ◌||◌, if◌then◌else◌, List, length, Option, Some, None}
 use Rattle.octets.specs.declared.proto.Proto.{Proto}
 use Rattle.octets.specs.declared.proto.Proto.TheVariants.{Tcp, Udp, Icmp}
 use Rattle.octets.specs.Field.{octet, word, with_word}
@@ -37,6 +37,10 @@ l4_of Udp payload =
     record { ports = record { src = word payload 0; dst = word payload 2 }; sum = word payload 6; flags = 0 }
 l4_of Icmp payload =
     record { ports = record { src = word payload 4; dst = word payload 4 }; sum = word payload 2; flags = 0 }
+
+-- the header of a payload that begins at this offset of the whole one: a later fragment has none
+abbrev pub header_at : ℕ → Proto → List ℕ → Option L4
+header_at offset proto payload = if offset == 0 then Some (l4_of proto payload) else None
 
 -- An echo request or reply of either ICMP, by its type octet (RFC 792, RFC 4443 section 4). No type of one
 -- version is a query of the other.

@@ -6,19 +6,23 @@ ghost use Rattle.std.specs.Prelude.{◌≡◌, ◌≤◌, ◌↔◌, IsErr, IfEr
 ghost use Rattle.octets.specs.declared.cause.Cause.TheVariants.{BadTransport};
 ghost use Rattle.l4_headers.specs.Transport.{header_octets, IsBadTransport, l4_of, with_l4};
 
+mod ends;
 mod equal;
 mod icmp;
 mod ports;
 mod pseudo_header;
 mod readdress;
+mod segment;
 mod tcp;
 mod udp;
 
+pub use ends::Ends;
 pub use equal::equal_values_are_the_same;
 use octets::{Cause, Proto};
-pub use ports::{L4, Ports};
+pub use ports::{L4, NO_PORTS, Ports};
 pub use pseudo_header::{address_sum4, address_sum6, pseudo_sum4, pseudo_sum6};
 pub use readdress::{computed_udp_sum, followed_by, followed_by_cut_tcp, readdressed_sum};
+pub use segment::Segment;
 
 /// The ports, the sum and the flags at the front of a packet's transport payload. `whole` says that the
 /// packet is no fragment; without it the payload is that of a first fragment, and only the header itself

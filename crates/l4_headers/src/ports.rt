@@ -5,6 +5,9 @@ pub struct Ports {
     pub dst: u16,
 }
 
+/// The ports of a later fragment, which has none.
+pub const NO_PORTS: Ports = Ports { src: 0, dst: 0 };
+
 /// What the domain needs of a transport header.
 #[derive(Clone, Copy, Debug, PartialEq, Eq, Hash)]
 pub struct L4 {

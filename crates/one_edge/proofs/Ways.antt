@@ -1,39 +1,36 @@
 -- A served packet goes out and is translated back.
-use Rattle.std.proofs.Common.{◌≡◌, ◌≢◌, ℕ, ◌+◌, ◌-◌, ◌%◌, ◌^◌, ◌<◌, ◌≤◌, Bool, true, false, List, length, not, Option, Some, None, refl, sym, ap, ◌∙◌, subst, arith}
+use Rattle.std.proofs.Common.{◌≡◌, ◌≢◌, ℕ, ◌+◌, ◌-◌, ◌%◌, ◌^◌, ◌<◌, ◌≤◌, false, List, length, not, Option, Some, None, refl, sym, ap, ◌∙◌, subst, arith}
 use Rattle.std.proofs.lemmas.Bool.{false≢true}
 use Rattle.octets.specs.declared.address.Addr4.{Addr4}
 use Rattle.octets.specs.declared.address.Addr6.{Addr6}
 use Rattle.octets.specs.declared.proto.Proto.{Proto}
 use Rattle.octets.specs.declared.proto.Proto.TheVariants.{Tcp, Udp, Icmp}
 use Rattle.ip4_packet.specs.declared.head.Head4.{Head4}
-use Rattle.ip4_packet.specs.Grammar.{payload_of4, Is4}
+use Rattle.ip4_packet.specs.Grammar.{payload_of4}
 use Rattle.ip4_packet.specs.Written.{written4}
 use Rattle.ip6_packet.specs.declared.head.Head6.{Head6}
-use Rattle.ip6_packet.specs.declared.head.Frag6.{Frag6}
 use Rattle.ip6_packet.specs.Fragment.{fragment_offset, more_fragments}
 use Rattle.ip6_packet.specs.Grammar.{payload_of6, Is6}
 use Rattle.ip6_packet.specs.Written.{written6, IsPacket6}
 use Rattle.ip6_packet.proofs.WrittenLemmas.{written_is6}
 use Rattle.l4_headers.specs.declared.ports.Ports.{Ports}
-use Rattle.l4_headers.specs.declared.ports.L4.{L4}
-use Rattle.l4_headers.specs.Transport.{header_octets, l4_of, with_l4, IsBadTransport}
-use Rattle.l4_headers.proofs.Laws.{length-with_l4, bad_with_l4}
+use Rattle.l4_headers.specs.Transport.{header_octets, l4_of, with_l4}
+use Rattle.l4_headers.proofs.Laws.{length-with_l4}
 use Rattle.l4_headers.proofs.RightSums.{header_stands}
 use Rattle.xlat46.specs.Fits.{FitsHead}
-use Rattle.xlat46.specs.Head.{is_fragment, upper_protocol, translated}
+use Rattle.xlat46.specs.Head.{upper_protocol, translated}
+use Rattle.ip4_packet.specs.Fragment.{is_fragment}
 use Rattle.xlat46.specs.Whole.{packet46}
 use Rattle.xlat64.specs.Whole.{Parts6, IsCarried6, sum64, packet64}
-use Rattle.icmp_xlat.specs.declared.ends.Ends.{Ends}
-use Rattle.packets.specs.declared.packet4.Content4.{Content4}
+use Rattle.l4_headers.specs.declared.ends.Ends.{Ends}
 use Rattle.packets.specs.declared.packet4.Content4.TheVariants.{Segment}
 use Rattle.packets.specs.declared.packet4.Packet4.{Packet4}
 use Rattle.transit.proofs.Form.{low_offset}
-use Rattle.crossing.specs.Named.{Named, uncut}
 use Rattle.crossing.specs.Nat44.{with_source, with_ports, nat44}
-use Rattle.crossing.specs.Transfer.{Transfer, FitsEnds, crossing_of, packet_with}
-use Rattle.crossing.proofs.Heads.{whole_parts, payload_len_is, offset_there, head_there, head_back, form, named_uncut}
+use Rattle.crossing.specs.Transfer.{Transfer, packet_with}
+use Rattle.crossing.proofs.Heads.{whole_parts, payload_len_is, head_there, head_back, form, named_uncut}
 use Rattle.crossing.proofs.Contents.{flow_number}
-use Rattle.crossing.proofs.Segment.{Carries, again_of, carried_back, parts_back, payload_there, payload_back, sum_there, length_there, length_back, segment_is, udp_has_sum, parts_there}
+use Rattle.crossing.proofs.Segment.{Carries, again_of, carried_back, parts_back, payload_back, length_there, length_back, segment_is}
 use Rattle.one_edge.specs.declared.taken.Taken.{Taken}
 use Rattle.one_edge.specs.Edge.{Edge, outside_port, own4, own6, far6}
 use Rattle.one_edge.specs.Served.{IsServed, parts_of}

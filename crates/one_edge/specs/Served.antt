@@ -9,7 +9,7 @@ use Rattle.ip4_packet.specs.Grammar.{payload_of4}
 use Rattle.l4_headers.specs.Transport.{l4_of}
 use Rattle.rule_book.specs.Owner.{covers_of}
 use Rattle.nat_model.specs.Binding.{same_proto}
-use Rattle.xlat46.specs.Head.{is_fragment}
+use Rattle.ip4_packet.specs.Fragment.{is_fragment}
 use Rattle.xlat46.specs.Whole.{Parts4, HasNoTcpUdpCause4}
 use Rattle.one_edge.specs.declared.taken.Taken.{Taken}
 use Rattle.one_edge.specs.Edge.{Edge}

@@ -1,11 +1,13 @@
-ghost use Rattle.std.specs.Prelude.{◌≤◌, IfOk, length};
+ghost use Rattle.std.specs.Prelude.{◌≡◌, ◌≤◌, IfOk, Some, length, true};
+ghost use Rattle.l4_headers.specs.Transport.{IsBadTransport, l4_of};
 ghost use Rattle.one_edge.specs.Edge.{edge_in};
 ghost use Rattle.one_edge.specs.Served.{IsServed};
 ghost use Rattle.one_edge.specs.Crossed.{IsCrossed};
 
 use crate::OneEdge;
 use crate::taken::Taken;
-use octets::{Bytes, NoMemory};
+use l4_headers::{Ends, Segment, accepted_l4};
+use octets::{Bytes, NoMemory, Proto};
 use std::alloc::Global;
 use xlat46::{head46, packet46};
 use xlat64::packet64;
@@ -18,6 +20,20 @@ const IDENTIFICATIONS: usize = 1 << 16;
 pub(crate) struct Crossed {
     pub(crate) access: Bytes,
     pub(crate) core: Bytes,
+}
+
+/// What a whole packet of TCP or UDP carries.
+fn whole_segment(proto: Proto, payload: &[u8]) -> Segment<'_>
+    requires { IsBadTransport proto payload.now true → ⊥ }
+    ensures proto { result.proto ≡ proto }
+    ensures payload { result.payload.now ≡ payload.now }
+    ensures header { result.header ≡ Some (l4_of proto payload.now) }
+{
+    Segment {
+        proto,
+        header: Some(accepted_l4(proto, payload, true)),
+        payload,
+    }
 }
 
 impl OneEdge {
@@ -38,28 +54,15 @@ impl OneEdge {
         let far6 = self.far6(taken.head.dst);
         let ports = self.ports(taken.ports);
         let inside = taken.head.payload(octets);
-        let access = packet46(
-            alloc,
-            &taken.head,
-            taken.proto,
-            inside,
-            own6,
-            far6,
-            Some(ports),
-        )?;
+        let out = Ends::between(own6, far6, Some(ports));
+        let segment = whole_segment(taken.proto, inside);
+        let access = packet46(alloc, &taken.head, &segment, &out)?;
         let head = head46(&taken.head, own6, far6);
         let carried = head.payload(access.as_slice());
         let id = (number % IDENTIFICATIONS) as u16;
-        let core = packet64(
-            alloc,
-            &head,
-            taken.proto,
-            carried,
-            self.own4(),
-            taken.head.dst,
-            Some(ports),
-            id,
-        )?;
+        let onward = Ends::between(self.own4(), taken.head.dst, Some(ports));
+        let translated = whole_segment(taken.proto, carried);
+        let core = packet64(alloc, &head, &translated, &onward, id)?;
         Ok(Crossed { access, core })
     }
 }

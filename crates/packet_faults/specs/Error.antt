@@ -14,6 +14,7 @@ use Rattle.ip6_packet.specs.Grammar.{trimmed6}
 use Rattle.ip6_packet.specs.Causes.{IsNoDestination6}
 use Rattle.ip6_packet.specs.Written.{written6}
 use Rattle.icmp_messages.specs.Message.{message4, message6}
+use Rattle.packet_faults.specs.declared.notice.Notice.{Notice}
 
 -- The payload of this protocol is an ICMP error by its type octet, if it has one. ICMPv4: destination
 -- unreachable, source quench, redirect, time exceeded, parameter problem (RFC 1122, section 3.2.2).
@@ -39,11 +40,6 @@ abbrev pub IsUnanswered6 : Head6 → List ℕ → Type 0
 IsUnanswered6 h payload = IsError6 h.upper payload ⊎ ((fragment_offset h.frag ≢ 0) ⊎ IsNoDestination6 h.src.0)
 
 -- what an error says: its type, its code, and the four octets behind its sum
-pub record Notice : Type 0 where
-  pub kind : ℕ
-  pub code : ℕ
-  pub rest : ℕ
-
 abbrev pub notice : ℕ → ℕ → ℕ → Notice
 notice kind code rest = record { kind = kind; code = code; rest = rest }
 

@@ -2,10 +2,11 @@
 
 ghost use Rattle.std.specs.Prelude.{◌≡◌, ◌≤◌, ◌↔◌, IsTrue, List, ℕ, length, None, IfOk, IfSome};
 ghost use Rattle.ip4_packet.specs.declared.head.Head4.{Head4 as Header};
-ghost use Rattle.ip4_packet.specs.Grammar.{Is4};
+ghost use Rattle.ip4_packet.specs.Grammar.{payload_of4, Is4};
 ghost use Rattle.ip4_packet.specs.Causes.{HasNoHeaderCause4};
 ghost use Rattle.packet_faults.specs.Error.{IsError4, IsUnanswered4, notice, embedded4, error_head4, error_message4, error4};
 
+use crate::notice::{Notice, Origin};
 use icmp_messages::Icmp4;
 use ip4_packet::{Head4, is_no_destination};
 use octets::icmp_type::{
@@ -53,12 +54,58 @@ fn embedded<'a>(head: &Head4, packet: &'a [u8]) -> &'a [u8]
     &whole[..(MAX_LEN - BEFORE).min(whole.len())]
 }
 
-/// The ICMPv4 error of this type, code and four octets that answers a packet (RFC 792), from `src` to the
-/// packet's source, with the identification `id`. It embeds the packet as it was received, without octets
-/// after its declared length, cut so that the error has at most 576 octets.
+/// The ICMPv4 error that says this of a packet with this header (RFC 792), from `from` to the packet's source. It embeds the packet
+/// as it was received, without octets after its declared length, cut so that the error has at most 576 octets.
 ///
-/// None exactly where no error answers: an ICMP error, a later fragment, or a packet from a group, the
-/// broadcast address or the unspecified address (RFC 1122, section 3.2.2).
+/// None exactly where no error answers: an ICMP error, a later fragment, or a packet from a group, the broadcast address or the
+/// unspecified address (RFC 1122, section 3.2.2).
+pub fn answer4(
+    alloc: Global,
+    head: &Head4,
+    packet: &[u8],
+    what: Notice,
+    from: Origin,
+) -> Result<Option<Bytes>, NoMemory>
+    requires is { Is4 head.now (payload_of4 head.now packet.now) packet.now }
+    requires fine { HasNoHeaderCause4 packet.now }
+    ensures none { IfOk result (λ error. (error ≡ None) ↔ IsUnanswered4 head.now (payload_of4 head.now packet.now)) }
+    ensures error { IfOk result (λ error. IfSome error (λ octets. octets ≡ error4 head.now packet.now what from.addr from.id)) }
+    ensures bounded { IfOk result (λ error. IfSome error (λ octets. length octets ≤ 576)) }
+    // The error is a packet that the header reader accepts.
+    ensures accepted { IfOk result (λ error. IfSome error (λ octets. HasNoHeaderCause4 octets)) }
+{
+    if is_unanswered(head, head.payload(packet)) {
+        return Ok(None);
+    }
+    let mut body = Bytes::new(alloc);
+    body.extend(embedded(head, packet))?;
+    let message = Icmp4 {
+        kind: what.kind,
+        code: what.code,
+        rest: what.rest,
+        body,
+    }
+    .write(alloc)?;
+    let message = message.as_slice();
+    let header = Head4 {
+        tos: 0,
+        id: from.id,
+        df: false,
+        mf: false,
+        offset: 0,
+        ttl: TTL,
+        proto: ICMP4,
+        src: from.addr,
+        dst: head.src,
+        head_len: HEADER_LEN as u8,
+        total: (HEADER_LEN + message.len()) as u16,
+        routed: false,
+    };
+    Ok(Some(header.write(alloc, message)?))
+}
+
+/// The ICMPv4 error of this type, code and four octets that answers a packet (RFC 792), from `src` to the packet's source, with the
+/// identification `id`, as `answer4` makes it.
 pub fn fault4(
     alloc: Global,
     packet: &[u8],
@@ -75,35 +122,7 @@ pub fn fault4(
     // The error is a packet that the header reader accepts.
     ensures accepted { IfOk result (λ error. IfSome error (λ octets. HasNoHeaderCause4 octets)) }
 {
-    let Ok(head) = Head4::read(packet) else {
-        unreachable!();
-    };
-    if is_unanswered(&head, head.payload(packet)) {
-        return Ok(None);
-    }
-    let mut body = Bytes::new(alloc);
-    body.extend(embedded(&head, packet))?;
-    let message = Icmp4 {
-        kind,
-        code,
-        rest,
-        body,
-    }
-    .write(alloc)?;
-    let message = message.as_slice();
-    let head = Head4 {
-        tos: 0,
-        id,
-        df: false,
-        mf: false,
-        offset: 0,
-        ttl: TTL,
-        proto: ICMP4,
-        src,
-        dst: head.src,
-        head_len: HEADER_LEN as u8,
-        total: (HEADER_LEN + message.len()) as u16,
-        routed: false,
-    };
-    Ok(Some(head.write(alloc, message)?))
+    let head = Head4::accepted(packet);
+    let what = Notice { kind, code, rest };
+    answer4(alloc, &head, packet, what, Origin { addr: src, id })
 }

@@ -2,10 +2,11 @@
 
 ghost use Rattle.std.specs.Prelude.{◌≡◌, ◌≤◌, ◌↔◌, IsTrue, List, ℕ, length, None, IfOk, IfSome};
 ghost use Rattle.ip6_packet.specs.declared.head.Head6.{Head6 as Header};
-ghost use Rattle.ip6_packet.specs.Grammar.{Is6};
+ghost use Rattle.ip6_packet.specs.Grammar.{payload_of6, Is6};
 ghost use Rattle.ip6_packet.specs.Causes.{HasNoHeaderCause6};
 ghost use Rattle.packet_faults.specs.Error.{IsError6, IsUnanswered6, notice, embedded6, error_head6, error_message6, error6};
 
+use crate::notice::Notice;
 use icmp_messages::Icmp6;
 use ip6_packet::{Head6, is_no_destination};
 use octets::icmp_type::LEAST_INFORMATIONAL6;
@@ -46,12 +47,54 @@ fn embedded<'a>(head: &Head6, packet: &'a [u8]) -> &'a [u8]
     &whole[..(MAX_LEN - BEFORE).min(whole.len())]
 }
 
-/// The ICMPv6 error of this type, code and four octets that answers a packet (RFC 4443, section 2.4), from
-/// `src` to the packet's source. It embeds the packet as it was received, without octets after its declared
-/// length, cut so that the error has at most 1280 octets.
+/// The ICMPv6 error that says this of a packet with these headers (RFC 4443, section 2.4), from `src` to the packet's source. It
+/// embeds the packet as it was received, without octets after its declared length, cut so that the error has at most 1280 octets.
 ///
-/// None exactly where no error answers: an ICMP error, a later fragment, or a packet from a group or the
-/// unspecified address.
+/// None exactly where no error answers: an ICMP error, a later fragment, or a packet from a group or the unspecified address.
+pub fn answer6(
+    alloc: Global,
+    head: &Head6,
+    packet: &[u8],
+    what: Notice,
+    src: Addr6,
+) -> Result<Option<Bytes>, NoMemory>
+    requires is { Is6 head.now (payload_of6 head.now packet.now) packet.now }
+    requires fine { HasNoHeaderCause6 packet.now }
+    ensures none { IfOk result (λ error. (error ≡ None) ↔ IsUnanswered6 head.now (payload_of6 head.now packet.now)) }
+    ensures error { IfOk result (λ error. IfSome error (λ octets. octets ≡ error6 head.now packet.now what src)) }
+    ensures bounded { IfOk result (λ error. IfSome error (λ octets. length octets ≤ 1280)) }
+    // The error is a packet that the header reader accepts.
+    ensures accepted { IfOk result (λ error. IfSome error (λ octets. HasNoHeaderCause6 octets)) }
+{
+    if is_unanswered(head, head.payload(packet)) {
+        return Ok(None);
+    }
+    let mut body = Bytes::new(alloc);
+    body.extend(embedded(head, packet))?;
+    let message = Icmp6 {
+        kind: what.kind,
+        code: what.code,
+        rest: what.rest,
+        body,
+    }
+    .write(alloc, src, head.src)?;
+    let message = message.as_slice();
+    let header = Head6 {
+        class: 0,
+        hop: HOP,
+        src,
+        dst: head.src,
+        upper: ICMP6,
+        start: HEADER_LEN as u32,
+        length: message.len() as u16,
+        frag: None,
+        left: None,
+    };
+    Ok(Some(header.write(alloc, message)?))
+}
+
+/// The ICMPv6 error of this type, code and four octets that answers a packet (RFC 4443, section 2.4), from `src` to the packet's
+/// source, as `answer6` makes it.
 pub fn fault6(
     alloc: Global,
     packet: &[u8],
@@ -67,32 +110,6 @@ pub fn fault6(
     // The error is a packet that the header reader accepts.
     ensures accepted { IfOk result (λ error. IfSome error (λ octets. HasNoHeaderCause6 octets)) }
 {
-    let Ok(head) = Head6::read(packet) else {
-        unreachable!();
-    };
-    if is_unanswered(&head, head.payload(packet)) {
-        return Ok(None);
-    }
-    let mut body = Bytes::new(alloc);
-    body.extend(embedded(&head, packet))?;
-    let message = Icmp6 {
-        kind,
-        code,
-        rest,
-        body,
-    }
-    .write(alloc, src, head.src)?;
-    let message = message.as_slice();
-    let head = Head6 {
-        class: 0,
-        hop: HOP,
-        src,
-        dst: head.src,
-        upper: ICMP6,
-        start: HEADER_LEN as u32,
-        length: message.len() as u16,
-        frag: None,
-        left: None,
-    };
-    Ok(Some(head.write(alloc, message)?))
+    let head = Head6::accepted(packet);
+    answer6(alloc, &head, packet, Notice { kind, code, rest }, src)
 }

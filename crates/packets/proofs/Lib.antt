@@ -1,10 +1,10 @@
-pub mod Accepted4
-pub mod Accepted6
 pub mod Decided
 pub mod Faults
+pub mod FoundOnce
 pub mod Header4
 pub mod Header6
 pub mod Rests
+pub mod Settled
 pub mod Spared4
 pub mod Spared6
 pub mod Taken4

@@ -5,8 +5,8 @@ use Rattle.octets.specs.Field.{word}
 use Rattle.octets.specs.declared.proto.Proto.{Proto}
 use Rattle.octets.specs.declared.proto.Proto.TheVariants.{Tcp, Udp, Icmp}
 use Rattle.l4_headers.specs.Transport.{header_octets, data_offset, LengthsDisagree, IsBadTransport}
-use Rattle.icmp_xlat.specs.declared.table.Rest.{Rest}
-use Rattle.icmp_xlat.specs.declared.table.Rest.TheVariants.{Query, Zero, Protocol, Mtu, Pointer}
+use Rattle.icmp_messages.specs.declared.table.Rest.{Rest}
+use Rattle.icmp_messages.specs.declared.table.Rest.TheVariants.{Query, Zero, Protocol, Mtu, Pointer}
 use Rattle.packets.proofs.Decided.{Either, either, both, neither, equal, less, is_true}
 
 -- the pointer, and a query

@@ -14,12 +14,12 @@ use Rattle.ip4_packet.specs.declared.head.Head4.{Head4}
 use Rattle.icmp_messages.specs.declared.icmp4.Icmp4.{Icmp4}
 use Rattle.icmp_messages.specs.declared.inner4.Inner4.{Inner4}
 use Rattle.icmp_messages.specs.Message.{IsIcmp4}
-use Rattle.icmp_messages.specs.Inner.{IsInner4, IsBadInner4}
-use Rattle.icmp_xlat.specs.declared.table.Row.{Row}
-use Rattle.icmp_xlat.specs.Icmp46.{HasNoRow46, LacksPointer46, embedded46}
-use Rattle.icmp_xlat.specs.declared.table.Rest.TheVariants.{Query as QueryRest, Pointer}
-use Rattle.icmp_xlat.specs.Table.{table46, row_of}
-use Rattle.icmp_messages.specs.Inner.{IsCarried4, IsBadBehind4}
+use Rattle.icmp_messages.specs.Inner.{IsInner4, IsBadInner4, IsCarried4, IsBadBehind4}
+use Rattle.icmp_messages.specs.declared.table.Row.{Row}
+use Rattle.icmp_messages.specs.Rows.{HasNoRow46, LacksPointer46}
+use Rattle.icmp_messages.specs.Extension.{embedded46}
+use Rattle.icmp_messages.specs.declared.table.Rest.TheVariants.{Query as QueryRest, Pointer}
+use Rattle.icmp_messages.specs.Table.{table46, row_of}
 use Rattle.ip4_packet.specs.Embedded.{HasHeader4, LacksHeader4}
 use Rattle.ip4_packet.specs.Grammar.{payload_of4}
 use Rattle.l4_headers.specs.Transport.{IsBadTransport}

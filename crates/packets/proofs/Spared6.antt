@@ -15,20 +15,21 @@ use Rattle.icmp_messages.specs.declared.icmp6.Icmp6.{Icmp6}
 use Rattle.icmp_messages.specs.declared.inner6.Inner6.{Inner6}
 use Rattle.icmp_messages.specs.Message.{IsIcmp6, IsShort, IsWrongSum6}
 use Rattle.icmp_messages.specs.Inner.{IsInner6}
-use Rattle.icmp_xlat.specs.declared.table.Row.{Row}
-use Rattle.icmp_xlat.specs.Icmp64.{HasNoRow64, LacksPointer64, embedded64}
-use Rattle.icmp_xlat.specs.declared.table.Rest.TheVariants.{Query as QueryRest, Pointer}
-use Rattle.icmp_xlat.specs.Table.{table64, row_of}
+use Rattle.icmp_messages.specs.declared.table.Row.{Row}
+use Rattle.icmp_messages.specs.Rows.{HasNoRow64, LacksPointer64}
+use Rattle.icmp_messages.specs.Extension.{embedded64}
+use Rattle.icmp_messages.specs.declared.table.Rest.TheVariants.{Query as QueryRest, Pointer}
+use Rattle.icmp_messages.specs.Table.{table64, row_of}
 use Rattle.ip6_packet.specs.Grammar.{payload_of6}
 use Rattle.l4_headers.specs.Transport.{IsBadTransport}
 use Rattle.octets.specs.declared.address.Addr6.{Addr6}
-use Rattle.ip6_packet.specs.Fragment.{fragment_offset, more_fragments}
+use Rattle.ip6_packet.specs.Fragment.{fragment_offset, more_fragments, IsFragment6}
 use Rattle.ip6_packet.proofs.EmbeddedLemmas.{same_headers6}
 use Rattle.icmp_messages.proofs.InnerLemmas.{not_bad6}
 use Rattle.packets.specs.declared.packet6.Content6.{Content6}
 use Rattle.packets.specs.declared.packet6.Content6.TheVariants.{Segment, Later, Query, Error}
 use Rattle.packets.specs.declared.packet6.Packet6.{Packet6}
-use Rattle.packets.specs.Behind6.{Behind6, IsFragment6, IsError6, IsAnswered6, IsBadEmbedded6}
+use Rattle.packets.specs.Behind6.{Behind6, IsError6, IsAnswered6, IsBadEmbedded6}
 use Rattle.packets.specs.Packet6.{IsContent6, IsMessage6}
 
 -- two embedded packets in the same octets have the same headers

@@ -20,11 +20,12 @@ use Rattle.icmp_messages.specs.declared.icmp4.Icmp4.{Icmp4}
 use Rattle.icmp_messages.specs.declared.inner4.Inner4.{Inner4}
 use Rattle.icmp_messages.specs.Message.{IsIcmp4}
 use Rattle.icmp_messages.specs.Inner.{IsEcho4, IsCarried4, IsInner4, IsBadInner4}
-use Rattle.xlat46.specs.Head.{is_fragment}
-use Rattle.icmp_xlat.specs.declared.table.Rest.TheVariants.{Query as QueryRest}
-use Rattle.icmp_xlat.specs.declared.table.Row.{Row}
-use Rattle.icmp_xlat.specs.Table.{table46, row_of, pointers46, pointer_of}
-use Rattle.icmp_xlat.specs.Icmp46.{LacksPointer46, HasNoRow46, embedded46}
+use Rattle.ip4_packet.specs.Fragment.{is_fragment}
+use Rattle.icmp_messages.specs.declared.table.Rest.TheVariants.{Query as QueryRest}
+use Rattle.icmp_messages.specs.declared.table.Row.{Row}
+use Rattle.icmp_messages.specs.Table.{table46, row_of, pointers46, pointer_of}
+use Rattle.icmp_messages.specs.Rows.{LacksPointer46, HasNoRow46}
+use Rattle.icmp_messages.specs.Extension.{embedded46}
 use Rattle.packets.specs.declared.packet4.Content4.{Content4}
 use Rattle.packets.specs.declared.packet4.Content4.TheVariants.{Segment, Later, Query, Error}
 use Rattle.packets.specs.declared.packet4.Packet4.{Packet4}

@@ -14,21 +14,22 @@ use Rattle.inet_sum.specs.Sum.{words, folded, IsRight}
 use Rattle.ip6_packet.specs.declared.head.Head6.{Head6}
 use Rattle.ip6_packet.specs.Causes.{HasNoHeaderCause6}
 use Rattle.ip6_packet.specs.Embedded.{HasHeaders6}
-use Rattle.ip6_packet.specs.Fragment.{fragment_offset, more_fragments}
+use Rattle.ip6_packet.specs.Fragment.{fragment_offset, more_fragments, IsFragment6}
 use Rattle.ip6_packet.specs.Grammar.{payload_of6, Is6}
 use Rattle.l4_headers.specs.Transport.{IsBadTransport, l4_of}
 use Rattle.icmp_messages.specs.declared.icmp6.Icmp6.{Icmp6}
 use Rattle.icmp_messages.specs.declared.inner6.Inner6.{Inner6}
 use Rattle.icmp_messages.specs.Message.{covered6, IsIcmp6}
 use Rattle.icmp_messages.specs.Inner.{IsEcho6, IsCarried6, IsInner6, IsBadInner6}
-use Rattle.icmp_xlat.specs.declared.table.Rest.TheVariants.{Query as QueryRest}
-use Rattle.icmp_xlat.specs.declared.table.Row.{Row}
-use Rattle.icmp_xlat.specs.Table.{table64, row_of, pointers64, pointer_of}
-use Rattle.icmp_xlat.specs.Icmp64.{LacksPointer64, HasNoRow64, embedded64}
+use Rattle.icmp_messages.specs.declared.table.Rest.TheVariants.{Query as QueryRest}
+use Rattle.icmp_messages.specs.declared.table.Row.{Row}
+use Rattle.icmp_messages.specs.Table.{table64, row_of, pointers64, pointer_of}
+use Rattle.icmp_messages.specs.Rows.{LacksPointer64, HasNoRow64}
+use Rattle.icmp_messages.specs.Extension.{embedded64}
 use Rattle.packets.specs.declared.packet6.Content6.{Content6}
 use Rattle.packets.specs.declared.packet6.Content6.TheVariants.{Segment, Later, Query, Error}
 use Rattle.packets.specs.declared.packet6.Packet6.{Packet6}
-use Rattle.packets.specs.Behind6.{Behind6, IsFragment6, IsError6, IsAnswered6, IsBadEmbedded6, IsDropped6}
+use Rattle.packets.specs.Behind6.{Behind6, IsError6, IsAnswered6, IsBadEmbedded6, IsDropped6}
 use Rattle.packets.specs.Packet6.{IsMessage6, IsErrorOf6, IsContent6, IsPacket6}
 use Rattle.packets.proofs.Decided.{Either, either, both, neither, equal, less, at_most, is_true, is_none, is_some, some_in, in_some, three, least_or_none}
 use Rattle.packets.proofs.Rests.{is_pointer, is_query, bad_transport}

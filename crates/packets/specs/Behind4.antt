@@ -15,11 +15,12 @@ use Rattle.icmp_messages.specs.declared.icmp4.Icmp4.{Icmp4}
 use Rattle.icmp_messages.specs.declared.inner4.Inner4.{Inner4}
 use Rattle.icmp_messages.specs.Message.{IsIcmp4, IsWrongSum4}
 use Rattle.icmp_messages.specs.Inner.{IsInner4, IsBadInner4}
-use Rattle.xlat46.specs.Head.{is_fragment}
-use Rattle.icmp_xlat.specs.declared.table.Row.{Row}
-use Rattle.icmp_xlat.specs.declared.table.Rest.TheVariants.{Query}
-use Rattle.icmp_xlat.specs.Table.{table46, row_of}
-use Rattle.icmp_xlat.specs.Icmp46.{HasNoRow46, embedded46}
+use Rattle.ip4_packet.specs.Fragment.{is_fragment}
+use Rattle.icmp_messages.specs.declared.table.Row.{Row}
+use Rattle.icmp_messages.specs.declared.table.Rest.TheVariants.{Query}
+use Rattle.icmp_messages.specs.Table.{table46, row_of}
+use Rattle.icmp_messages.specs.Rows.{HasNoRow46}
+use Rattle.icmp_messages.specs.Extension.{embedded46}
 
 -- the message is an error: it has a row, which isn't that of a query
 pub record IsError4 (m : Icmp4) (row : Row) : Type 0 where

@@ -8,7 +8,7 @@ use Rattle.octets.specs.declared.cause.Cause.{Cause}
 use Rattle.octets.specs.declared.cause.Cause.TheVariants.{SourceRoute, UnsupportedProtocol, IcmpFragment, BadTransport, IcmpSum, IcmpKind, BadInner, NoUdpSum}
 use Rattle.octets.specs.declared.proto.Proto.{Proto}
 use Rattle.ip6_packet.specs.declared.head.Head6.{Head6}
-use Rattle.ip6_packet.specs.Fragment.{fragment_offset, more_fragments}
+use Rattle.ip6_packet.specs.Fragment.{fragment_offset, more_fragments, IsFragment6}
 use Rattle.ip6_packet.specs.Grammar.{payload_of6, Is6}
 use Rattle.ip6_packet.specs.Causes.{HasNoHeaderCause6, IsCause6}
 use Rattle.l4_headers.specs.Transport.{IsBadTransport}
@@ -16,14 +16,11 @@ use Rattle.icmp_messages.specs.declared.icmp6.Icmp6.{Icmp6}
 use Rattle.icmp_messages.specs.declared.inner6.Inner6.{Inner6}
 use Rattle.icmp_messages.specs.Message.{IsIcmp6, IsWrongSum6}
 use Rattle.icmp_messages.specs.Inner.{IsInner6, IsBadInner6}
-use Rattle.icmp_xlat.specs.declared.table.Row.{Row}
-use Rattle.icmp_xlat.specs.declared.table.Rest.TheVariants.{Query}
-use Rattle.icmp_xlat.specs.Table.{table64, row_of}
-use Rattle.icmp_xlat.specs.Icmp64.{HasNoRow64, embedded64}
-
--- a fragment, of which there is more than one
-abbrev pub IsFragment6 : Head6 → Type 0
-IsFragment6 h = IsTrue (more_fragments h.frag) ⊎ (fragment_offset h.frag ≢ 0)
+use Rattle.icmp_messages.specs.declared.table.Row.{Row}
+use Rattle.icmp_messages.specs.declared.table.Rest.TheVariants.{Query}
+use Rattle.icmp_messages.specs.Table.{table64, row_of}
+use Rattle.icmp_messages.specs.Rows.{HasNoRow64}
+use Rattle.icmp_messages.specs.Extension.{embedded64}
 
 -- the message is an error: it has a row, which isn't that of a query
 pub record IsError6 (m : Icmp6) (row : Row) : Type 0 where

@@ -13,11 +13,11 @@ use Rattle.icmp_messages.specs.declared.icmp4.Icmp4.{Icmp4}
 use Rattle.icmp_messages.specs.declared.inner4.Inner4.{Inner4}
 use Rattle.icmp_messages.specs.Message.{IsIcmp4}
 use Rattle.icmp_messages.specs.Inner.{IsInner4}
-use Rattle.xlat46.specs.Head.{is_fragment}
-use Rattle.icmp_xlat.specs.declared.table.Row.{Row}
-use Rattle.icmp_xlat.specs.declared.table.Rest.TheVariants.{Query}
-use Rattle.icmp_xlat.specs.Table.{table46, row_of}
-use Rattle.icmp_xlat.specs.Icmp46.{embedded46}
+use Rattle.ip4_packet.specs.Fragment.{is_fragment}
+use Rattle.icmp_messages.specs.declared.table.Row.{Row}
+use Rattle.icmp_messages.specs.declared.table.Rest.TheVariants.{Query}
+use Rattle.icmp_messages.specs.Table.{table46, row_of}
+use Rattle.icmp_messages.specs.Extension.{embedded46}
 use Rattle.packets.specs.declared.packet4.Content4.{Content4}
 use Rattle.packets.specs.declared.packet4.Content4.TheVariants.{Segment, Later, Query as QueryOf, Error}
 use Rattle.packets.specs.declared.packet4.Packet4.{Packet4}

@@ -5,7 +5,7 @@ use Rattle.octets.specs.Protocol.{proto6}
 use Rattle.octets.specs.declared.proto.Proto.{Proto}
 use Rattle.octets.specs.declared.proto.Proto.TheVariants.{Udp, Icmp}
 use Rattle.ip6_packet.specs.declared.head.Head6.{Head6}
-use Rattle.ip6_packet.specs.Fragment.{fragment_offset, more_fragments}
+use Rattle.ip6_packet.specs.Fragment.{fragment_offset, more_fragments, IsFragment6}
 use Rattle.ip6_packet.specs.Grammar.{payload_of6, Is6}
 use Rattle.ip6_packet.specs.Causes.{HasNoHeaderCause6}
 use Rattle.l4_headers.specs.declared.ports.L4.{L4}
@@ -14,14 +14,14 @@ use Rattle.icmp_messages.specs.declared.icmp6.Icmp6.{Icmp6}
 use Rattle.icmp_messages.specs.declared.inner6.Inner6.{Inner6}
 use Rattle.icmp_messages.specs.Message.{IsIcmp6}
 use Rattle.icmp_messages.specs.Inner.{IsInner6}
-use Rattle.icmp_xlat.specs.declared.table.Row.{Row}
-use Rattle.icmp_xlat.specs.declared.table.Rest.TheVariants.{Query}
-use Rattle.icmp_xlat.specs.Table.{table64, row_of}
-use Rattle.icmp_xlat.specs.Icmp64.{embedded64}
+use Rattle.icmp_messages.specs.declared.table.Row.{Row}
+use Rattle.icmp_messages.specs.declared.table.Rest.TheVariants.{Query}
+use Rattle.icmp_messages.specs.Table.{table64, row_of}
+use Rattle.icmp_messages.specs.Extension.{embedded64}
 use Rattle.packets.specs.declared.packet6.Content6.{Content6}
 use Rattle.packets.specs.declared.packet6.Content6.TheVariants.{Segment, Later, Query as QueryOf, Error}
 use Rattle.packets.specs.declared.packet6.Packet6.{Packet6}
-use Rattle.packets.specs.Behind6.{IsFragment6, IsError6, IsAnswered6}
+use Rattle.packets.specs.Behind6.{IsError6, IsAnswered6}
 
 -- a whole packet of TCP or UDP, or the first fragment of one, with its transport header
 pub record IsSegment6 (h : Head6) (payload : List ℕ) (proto : Proto) (l4 : L4) : Type 0 where

@@ -5,9 +5,6 @@ ghost use Rattle.packets.specs.Asked.{flow_of_query, extent_of};
 use l4_headers::Ports;
 use octets::Proto;
 
-/// The ports of a later fragment, which has none.
-pub const NO_PORTS: Ports = Ports { src: 0, dst: 0 };
-
 /// The flow that a packet belongs to.
 #[derive(Clone, Copy, Debug, PartialEq, Eq, Hash)]
 pub struct Flow {

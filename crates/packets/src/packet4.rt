@@ -8,20 +8,21 @@ ghost use Rattle.octets.specs.declared.cause.Fault.TheVariants.{Drop as Dropped,
 ghost use Rattle.octets.specs.declared.proto.Proto.TheVariants.{Icmp};
 ghost use Rattle.icmp_messages.specs.declared.inner4.Inner4.{Inner4 as Inner};
 ghost use Rattle.icmp_messages.specs.Inner.{IsInner4};
-ghost use Rattle.icmp_xlat.specs.Icmp46.{embedded46};
+ghost use Rattle.icmp_messages.specs.Extension.{embedded46};
 ghost use Rattle.packets.specs.declared.packet4.Content4.{Content4 as Content};
 ghost use Rattle.packets.specs.declared.packet4.Packet4.{Packet4 as Packet};
-ghost use Rattle.packets.specs.Behind4.{Behind4, IsBadEmbedded4, IsDropped4};
-ghost use Rattle.packets.specs.Packet4.{IsContent4, IsPacket4};
+ghost use Rattle.packets.specs.Behind4.{Behind4, IsBadEmbedded4};
+ghost use Rattle.packets.specs.Found.{IsFound4};
+ghost use Rattle.packets.specs.Packet4.{IsContent4};
 ghost use Rattle.packets.specs.Asked.{flow_of4, extent_of4, key_of4};
 
-use crate::asked::{Extent, Flow, NO_PORTS};
+use crate::asked::{Extent, Flow};
+use crate::found::Found;
 use frag_table::FragKey;
-use icmp_messages::{Icmp4, Inner4, read_inner4};
-use icmp_xlat::{Rest, Row, embedded46, translation46};
+use icmp_messages::{Icmp4, Inner4, Rest, Row, read_inner4};
 use ip4_packet::Head4;
-use l4_headers::{L4, Ports, read_l4};
-use octets::{Cause, Fault, Proto};
+use l4_headers::{L4, NO_PORTS, read_l4};
+use octets::{Cause, Fault, NoMemory, Proto};
 use std::alloc::Global;
 
 /// What an IPv4 packet carries.
@@ -62,7 +63,6 @@ fn segment4(head: &Head4, proto: Proto, payload: &[u8]) -> Result<Content4, Caus
     requires no_icmp { proto ≢ Icmp }
     requires unrouted { head.now.routed ≡ false }
     ensures found { IfOk result (λ content. IsContent4 head.now payload.now content) }
-    ensures only { (content : Content) → IsContent4 head.now payload.now content → IfOk result (λ read. read ≡ content) }
     ensures refused { IfErr result (λ cause. IsLeast (Behind4 head.now payload.now) cause) }
 {
     if head.offset != 0 {
@@ -78,10 +78,9 @@ fn segment4(head: &Head4, proto: Proto, payload: &[u8]) -> Result<Content4, Caus
 /// The packet that an ICMP error embeds, which was sent from where the error goes.
 fn embedded_packet4(alloc: Global, head: &Head4, message: &Icmp4) -> Result<Inner4, Fault>
     ensures found { IfOk result (λ inner. IsInner4 inner (embedded46 message.now) × (inner.head.src ≡ head.now.dst)) }
-    ensures only { (inner : Inner) → IsInner4 inner (embedded46 message.now) → IfOk result (λ read. read ≡ inner) }
     ensures refused { (cause : AnyCause) → result ≡ Err (Dropped cause) → (cause ≡ BadInner) × IsBadEmbedded4 head.now message.now }
 {
-    let inner = read_inner4(alloc, embedded46(message))?;
+    let inner = read_inner4(alloc, message.embedded())?;
     if inner.head.src != head.dst {
         return Err(Fault::Drop(Cause::BadInner));
     }
@@ -93,14 +92,13 @@ fn message4(alloc: Global, head: &Head4, payload: &[u8]) -> Result<Content4, Fau
     requires protocol { head.now.proto ≡ 1 }
     requires unrouted { head.now.routed ≡ false }
     ensures found { IfOk result (λ content. IsContent4 head.now payload.now content) }
-    ensures only { (content : Content) → IsContent4 head.now payload.now content → IfOk result (λ read. read ≡ content) }
     ensures refused { (cause : AnyCause) → result ≡ Err (Dropped cause) → IsLeast (Behind4 head.now payload.now) cause }
 {
-    if head.mf || head.offset != 0 {
+    if head.is_fragment() {
         return Err(Fault::Drop(Cause::IcmpFragment));
     }
     let message = Icmp4::read(alloc, payload)?;
-    let Some(row) = translation46(&message) else {
+    let Some(row) = message.row() else {
         return Err(Fault::Drop(Cause::IcmpKind));
     };
     if matches!(row.rest, Rest::Query) {
@@ -117,7 +115,6 @@ fn message4(alloc: Global, head: &Head4, payload: &[u8]) -> Result<Content4, Fau
 /// What stands behind this header.
 fn carried4(alloc: Global, head: &Head4, payload: &[u8]) -> Result<Content4, Fault>
     ensures found { IfOk result (λ content. (head.now.routed ≡ false) × IsContent4 head.now payload.now content) }
-    ensures only { (content : Content) → IsContent4 head.now payload.now content → IfOk result (λ read. read ≡ content) }
     ensures refused { (cause : AnyCause) → result ≡ Err (Dropped cause) → IsLeast (Behind4 head.now payload.now) cause }
 {
     if head.routed {
@@ -131,23 +128,22 @@ fn carried4(alloc: Global, head: &Head4, payload: &[u8]) -> Result<Content4, Fau
 }
 
 impl Packet4 {
-    /// The packet in these octets, from a LAN, from the core, or turned.
-    ///
-    /// Refuses, but for want of memory, exactly the packets that every node drops before it looks at a rule, with the
-    /// least of their causes: those of the header, `SourceRoute`, `UnsupportedProtocol`, `IcmpFragment`,
-    /// `BadTransport`, `IcmpSum`, `IcmpKind`, `BadInner` and `NoUdpSum` (RFC 7915, section 4). The embedded packet of an
-    /// error is one that was sent from where the error goes.
-    pub fn read(alloc: Global, octets: &[u8]) -> Result<Packet4, Fault>
-        ensures found { IfOk result (λ p. IsPacket4 p octets.now) }
-        // What the octets hold is read.
-        ensures only { (p : Packet) → IsPacket4 p octets.now → (result ≡ Ok p) ⊎ (result ≡ Err WantsMemory) }
-        ensures refused { (cause : AnyCause) → result ≡ Err (Dropped cause) → IsDropped4 cause octets.now }
-        // The least cause is a refusal.
-        ensures cause { (cause : AnyCause) → IsDropped4 cause octets.now → (result ≡ Err (Dropped cause)) ⊎ (result ≡ Err WantsMemory) }
+    /// The packet in these octets, from a LAN, from the core, or turned; or the least cause for which every node drops them before it
+    /// looks at a rule: those of the header, and behind it `SourceRoute`, `UnsupportedProtocol`, `IcmpFragment`, `BadTransport`,
+    /// `IcmpSum`, `IcmpKind`, `BadInner` and `NoUdpSum` (RFC 7915, section 4). The embedded packet of an error is one that was sent
+    /// from where the error goes.
+    pub fn read(alloc: Global, octets: &[u8]) -> Result<Found<Packet4, Head4>, NoMemory>
+        ensures { IfOk result (IsFound4 octets.now) }
     {
-        let head = Head4::read(octets)?;
-        let content = carried4(alloc, &head, head.payload(octets))?;
-        Ok(Packet4 { head, content })
+        let head = match Head4::read(octets) {
+            Ok(head) => head,
+            Err(cause) => return Ok(Found::Unreadable(cause)),
+        };
+        match carried4(alloc, &head, head.payload(octets)) {
+            Ok(content) => Ok(Found::Taken(Packet4 { head, content })),
+            Err(Fault::Drop(cause)) => Ok(Found::Dropped(cause, head)),
+            Err(Fault::NoMemory) => Err(NoMemory),
+        }
     }
 
     /// The flow that the packet belongs to.

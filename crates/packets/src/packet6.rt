@@ -8,20 +8,21 @@ ghost use Rattle.octets.specs.declared.cause.Fault.TheVariants.{Drop as Dropped,
 ghost use Rattle.octets.specs.declared.proto.Proto.TheVariants.{Icmp};
 ghost use Rattle.icmp_messages.specs.declared.inner6.Inner6.{Inner6 as Inner};
 ghost use Rattle.icmp_messages.specs.Inner.{IsInner6};
-ghost use Rattle.icmp_xlat.specs.Icmp64.{embedded64};
+ghost use Rattle.icmp_messages.specs.Extension.{embedded64};
 ghost use Rattle.packets.specs.declared.packet6.Content6.{Content6 as Content};
 ghost use Rattle.packets.specs.declared.packet6.Packet6.{Packet6 as Packet};
-ghost use Rattle.packets.specs.Behind6.{Behind6, IsAnswered6, IsBadEmbedded6, IsDropped6};
-ghost use Rattle.packets.specs.Packet6.{IsContent6, IsPacket6};
+ghost use Rattle.packets.specs.Behind6.{Behind6, IsAnswered6, IsBadEmbedded6};
+ghost use Rattle.packets.specs.Found.{IsFound6};
+ghost use Rattle.packets.specs.Packet6.{IsContent6};
 ghost use Rattle.packets.specs.Asked.{flow_of6, extent_of6, key_of6};
 
-use crate::asked::{Extent, Flow, NO_PORTS};
+use crate::asked::{Extent, Flow};
+use crate::found::Found;
 use frag_table::FragKey;
-use icmp_messages::{Icmp6, Inner6, read_inner6};
-use icmp_xlat::{Rest, Row, embedded64, translation64};
+use icmp_messages::{Icmp6, Inner6, Rest, Row, read_inner6};
 use ip6_packet::Head6;
-use l4_headers::{L4, Ports, read_l4};
-use octets::{Cause, Fault, Proto};
+use l4_headers::{L4, NO_PORTS, read_l4};
+use octets::{Cause, Fault, NoMemory, Proto};
 use std::alloc::Global;
 
 /// What an IPv6 packet carries.
@@ -62,7 +63,6 @@ fn segment6(head: &Head6, proto: Proto, payload: &[u8], at_relay: bool) -> Resul
     requires no_icmp { proto ≢ Icmp }
     requires unrouted { head.now.left ≡ None }
     ensures found { IfOk result (λ content. IsContent6 at_relay head.now payload.now content) }
-    ensures only { (content : Content) → IsContent6 at_relay head.now payload.now content → IfOk result (λ read. read ≡ content) }
     ensures refused { IfErr result (λ cause. IsLeast (Behind6 at_relay head.now payload.now) cause) }
 {
     if head.fragment_offset() != 0 {
@@ -83,10 +83,9 @@ fn embedded_packet6(
     at_relay: bool,
 ) -> Result<Inner6, Fault>
     ensures found { IfOk result (λ inner. IsInner6 inner (embedded64 message.now) × IsAnswered6 at_relay head.now inner) }
-    ensures only { (inner : Inner) → IsInner6 inner (embedded64 message.now) → IfOk result (λ read. read ≡ inner) }
     ensures refused { (cause : AnyCause) → result ≡ Err (Dropped cause) → (cause ≡ BadInner) × IsBadEmbedded6 at_relay head.now message.now }
 {
-    let inner = read_inner6(alloc, embedded64(message))?;
+    let inner = read_inner6(alloc, message.embedded())?;
     if inner.head.src != head.dst {
         return Err(Fault::Drop(Cause::BadInner));
     }
@@ -101,14 +100,13 @@ fn message6(alloc: Global, head: &Head6, payload: &[u8], at_relay: bool) -> Resu
     requires protocol { head.now.upper ≡ 58 }
     requires unrouted { head.now.left ≡ None }
     ensures found { IfOk result (λ content. IsContent6 at_relay head.now payload.now content) }
-    ensures only { (content : Content) → IsContent6 at_relay head.now payload.now content → IfOk result (λ read. read ≡ content) }
     ensures refused { (cause : AnyCause) → result ≡ Err (Dropped cause) → IsLeast (Behind6 at_relay head.now payload.now) cause }
 {
-    if head.more_fragments() || head.fragment_offset() != 0 {
+    if head.is_fragment() {
         return Err(Fault::Drop(Cause::IcmpFragment));
     }
     let message = Icmp6::read(alloc, head.src, head.dst, payload)?;
-    let Some(row) = translation64(&message) else {
+    let Some(row) = message.row() else {
         return Err(Fault::Drop(Cause::IcmpKind));
     };
     if matches!(row.rest, Rest::Query) {
@@ -125,7 +123,6 @@ fn message6(alloc: Global, head: &Head6, payload: &[u8], at_relay: bool) -> Resu
 /// What stands behind these headers.
 fn carried6(alloc: Global, head: &Head6, payload: &[u8], at_relay: bool) -> Result<Content6, Fault>
     ensures found { IfOk result (λ content. (head.now.left ≡ None) × IsContent6 at_relay head.now payload.now content) }
-    ensures only { (content : Content) → IsContent6 at_relay head.now payload.now content → IfOk result (λ read. read ≡ content) }
     ensures refused { (cause : AnyCause) → result ≡ Err (Dropped cause) → IsLeast (Behind6 at_relay head.now payload.now) cause }
 {
     if head.left.is_some() {
@@ -139,24 +136,27 @@ fn carried6(alloc: Global, head: &Head6, payload: &[u8], at_relay: bool) -> Resu
 }
 
 impl Packet6 {
-    /// The packet in these octets, from the access network. `at_relay` says that the relay takes it, to which an error
-    /// comes only from an end of the flow that it is about: there its embedded packet was sent to the error's source.
-    ///
-    /// Refuses, but for want of memory, exactly the packets that every node drops before it looks at a rule, with the
-    /// least of their causes: those of the headers, `SourceRoute`, `UnsupportedProtocol`, `IcmpFragment`,
-    /// `BadTransport`, `IcmpSum`, `IcmpKind`, `BadInner` and `NoUdpSum` (RFC 7915, section 5). The embedded packet of an
-    /// error is one that was sent from where the error goes.
-    pub fn read(alloc: Global, octets: &[u8], at_relay: bool) -> Result<Packet6, Fault>
-        ensures found { IfOk result (λ p. IsPacket6 at_relay p octets.now) }
-        // What the octets hold is read.
-        ensures only { (p : Packet) → IsPacket6 at_relay p octets.now → (result ≡ Ok p) ⊎ (result ≡ Err WantsMemory) }
-        ensures refused { (cause : AnyCause) → result ≡ Err (Dropped cause) → IsDropped6 at_relay cause octets.now }
-        // The least cause is a refusal.
-        ensures cause { (cause : AnyCause) → IsDropped6 at_relay cause octets.now → (result ≡ Err (Dropped cause)) ⊎ (result ≡ Err WantsMemory) }
+    /// The packet in these octets, from the access network; or the least cause for which every node drops them before it looks at a
+    /// rule: those of the headers, and behind them `SourceRoute`, `UnsupportedProtocol`, `IcmpFragment`, `BadTransport`, `IcmpSum`,
+    /// `IcmpKind`, `BadInner` and `NoUdpSum` (RFC 7915, section 5). The embedded packet of an error is one that was sent from where
+    /// the error goes. `at_relay` says that the relay takes it, to which an error comes only from an end of the flow that it is
+    /// about: there its embedded packet was sent to the error's source.
+    pub fn read(
+        alloc: Global,
+        octets: &[u8],
+        at_relay: bool,
+    ) -> Result<Found<Packet6, Head6>, NoMemory>
+        ensures { IfOk result (IsFound6 at_relay octets.now) }
     {
-        let head = Head6::read(octets)?;
-        let content = carried6(alloc, &head, head.payload(octets), at_relay)?;
-        Ok(Packet6 { head, content })
+        let head = match Head6::read(octets) {
+            Ok(head) => head,
+            Err(cause) => return Ok(Found::Unreadable(cause)),
+        };
+        match carried6(alloc, &head, head.payload(octets), at_relay) {
+            Ok(content) => Ok(Found::Taken(Packet6 { head, content })),
+            Err(Fault::Drop(cause)) => Ok(Found::Dropped(cause, head)),
+            Err(Fault::NoMemory) => Err(NoMemory),
+        }
     }
 
     /// The flow that the packet belongs to.

@@ -4,7 +4,7 @@ use Rattle.std.proofs.Common.{◌≡◌, refl, ℕ, List}
 use Rattle.std.specs.Prelude.{[], ◌∷◌}
 use Rattle.octets.specs.declared.prefix.Prefix6.{Prefix6}
 use Rattle.map_rules.specs.declared.dmr.Dmr.{Dmr}
-use Rattle.packet_faults.specs.declared.hop.Out.TheVariants.{Lan, Access, Core, Turn}
+use Rattle.hops.specs.declared.hop.Out.TheVariants.{Lan, Access, Core, Turn}
 use Rattle.relay_node.specs.Route.{Domain, outside, itself, edge, relay, nowhere, route_of}
 
 record AreHomes (home other : Prefix6) (dmr : Dmr) : Type 0 where

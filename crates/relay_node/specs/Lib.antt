@@ -1,7 +1,7 @@
 pub mod Asked
 pub mod Relay
-pub mod Gains
 pub mod FromAccess
 pub mod FromIpv4
 pub mod Hop
 pub mod Route
+pub mod Taken

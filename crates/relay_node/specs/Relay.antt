@@ -1,8 +1,7 @@
 -- The relay as one hop finds it, and the addresses that its book gives (RFC 7597, section 8; RFC 7599, section 8).
-use Rattle.std.specs.Prelude.{ℕ, Bool, if◌then◌else◌, List, [], ◌∷◌, Option, Some, None}
+use Rattle.std.specs.Prelude.{ℕ, Bool, if◌then◌else◌, List, Option, Some, None}
 use Rattle.octets.specs.declared.address.Addr4.{Addr4}
 use Rattle.octets.specs.declared.address.Addr6.{Addr6}
-use Rattle.octets.specs.declared.cause.Cause.{Cause}
 use Rattle.l4_headers.specs.declared.ports.Ports.{Ports}
 use Rattle.map_rules.specs.declared.rule.Rule.{Rule}
 use Rattle.map_rules.specs.declared.dmr.Dmr.{Dmr}
@@ -11,9 +10,8 @@ use Rattle.rule_book.specs.declared.view.FarOf.{FarOf}
 use Rattle.rule_book.specs.declared.view.FarOf.TheVariants.{Addr, Spoofed, NotDefault}
 use Rattle.rule_book.specs.Far.{has_addr6, far_of}
 use Rattle.rule_book.specs.Owner.{owner_of, covers_of}
-use Rattle.packet_faults.specs.declared.hop.Hop.{Hop}
-use Rattle.transit.specs.declared.exit.Exit.{Exit}
-use Rattle.transit.specs.declared.exit.Exit.TheVariants.{ToCore, ToItself}
+use Rattle.hops.specs.declared.exit.Exit.{Exit}
+use Rattle.hops.specs.declared.exit.Exit.TheVariants.{ToCore, ToItself}
 use Rattle.relay_node.specs.declared.params.RelayParams.{RelayParams}
 
 -- the rules and the default mapping rule of one book, the relay's own address and MTUs, and the identification that packets
@@ -63,7 +61,3 @@ own_of relay d port = owner_of relay.rules d.0 port
 -- the core
 abbrev pub exit_of : List Rule → Addr4 → Exit
 exit_of rules d = if covers_of rules d.0 then ToItself else ToCore
-
--- a packet is dropped, and nothing answers it
-abbrev pub lost : Cause → Hop
-lost cause = record { outs = []; drops = cause ∷ [] }

@@ -5,8 +5,8 @@ use Rattle.octets.specs.Field.{sixteen}
 use Rattle.octets.specs.declared.prefix.Prefix6.{Prefix6}
 use Rattle.map_rules.specs.declared.dmr.Dmr.{Dmr}
 use Rattle.rule_book.specs.Far.{has_addr6}
-use Rattle.packet_faults.specs.declared.hop.Out.{Out}
-use Rattle.packet_faults.specs.declared.hop.Out.TheVariants.{Lan, Access, Core, Turn}
+use Rattle.hops.specs.declared.hop.Out.{Out}
+use Rattle.hops.specs.declared.hop.Out.TheVariants.{Lan, Access, Core, Turn}
 
 -- the edges of the domain by their prefixes, which don't overlap, and the default mapping rule
 pub record Domain : Type 0 where

@@ -4,15 +4,15 @@ ghost use Rattle.std.specs.Option.{option_map};
 ghost use Rattle.relay_node.specs.Relay.{relay_at, embedded_in, extracted, source_addr, own_of, exit_of};
 
 use crate::RelayParams;
+use hops::Exit;
 use octets::{Addr4, Addr6, Mtus};
 use rule_book::{FarOf, RuleView};
 use std::marker::Model;
-use transit::Exit;
 
 /// The relay as one hop finds it: the rules of one view, its own address and MTUs, and the identification of packets that
 /// have none of their own.
 #[derive(Drop)]
-pub(crate) struct Relay<'a, V: RuleView> {
+pub struct Relay<'a, V: RuleView> {
     view: &'a V,
     params: RelayParams,
     id: u16,
@@ -28,7 +28,7 @@ impl<'a, V: RuleView> Model for Relay<'a, V> {
 
 impl<'a, V: RuleView> Relay<'a, V> {
     /// The relay with these rules, parameters and identification.
-    pub(crate) fn new(view: &'a V, params: &RelayParams, id: u16) -> Relay<'a, V>
+    pub fn new(view: &'a V, params: &RelayParams, id: u16) -> Relay<'a, V>
         ensures { result ≡ relay_at (V.rules view.now) (V.default_rule view.now) params.now id }
     {
         Relay {

@@ -11,7 +11,7 @@ use Rattle.packets.specs.declared.packet6.Content6.{Content6}
 use Rattle.packets.specs.declared.packet6.Content6.TheVariants.{Segment as Segment6, Later as Later6, Query as Query6, Error as Error6}
 use Rattle.packets.specs.declared.packet6.Packet6.{Packet6}
 use Rattle.packets.specs.Asked.{flow_of4, flow_of6, extent_of4, extent_of6, key_of4, key_of6}
-use Rattle.packets.specs.Behind6.{IsFragment6}
+use Rattle.ip6_packet.specs.Fragment.{IsFragment6}
 use Rattle.packets.specs.Packet6.{IsPacket6, IsContent6}
 use Rattle.edge_node.specs.Asked.{near_addr4, near_addr6, near_port, other_port, asked_part, outward, inward}
 use Rattle.trace_text.specs.Answered.{Step, AnsweredOut, AnsweredIn, answer_to}

@@ -11,8 +11,8 @@ use Rattle.l4_headers.specs.Transport.{l4_of}
 use Rattle.icmp_messages.specs.declared.icmp4.Icmp4.{Icmp4}
 use Rattle.icmp_messages.specs.declared.inner4.Inner4.{Inner4}
 use Rattle.icmp_messages.specs.Message.{message4}
-use Rattle.icmp_xlat.specs.declared.table.Rest.TheVariants.{Zero}
-use Rattle.icmp_xlat.specs.Table.{row}
+use Rattle.icmp_messages.specs.declared.table.Rest.TheVariants.{Zero}
+use Rattle.icmp_messages.specs.Table.{row}
 use Rattle.nat_model.specs.declared.answer.Answer.{Answer}
 use Rattle.nat_model.specs.declared.answer.Answer.TheVariants.{Out, In}
 use Rattle.packets.specs.declared.packet4.Content4.TheVariants.{Segment, Error}

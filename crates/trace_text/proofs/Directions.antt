@@ -11,13 +11,13 @@ use Rattle.ip4_packet.specs.declared.head.Head4.{Head4}
 use Rattle.ip4_packet.specs.Grammar.{payload_of4}
 use Rattle.ip6_packet.specs.Grammar.{payload_of6}
 use Rattle.l4_headers.specs.declared.ports.Ports.{Ports}
-use Rattle.xlat46.specs.Head.{is_fragment}
+use Rattle.ip4_packet.specs.Fragment.{is_fragment}
 use Rattle.xlat46.specs.Whole.{ArePorts}
 use Rattle.map_rules.specs.declared.dmr.Dmr.{Dmr}
 use Rattle.rule_book.specs.declared.view.FarOf.{FarOf}
 use Rattle.rule_book.specs.declared.view.FarOf.TheVariants.{Addr, Spoofed, NotDefault}
 use Rattle.rule_book.specs.Far.{has_addr6, far_of}
-use Rattle.icmp_xlat.specs.declared.ends.Ends.{Ends}
+use Rattle.l4_headers.specs.declared.ends.Ends.{Ends}
 use Rattle.nat_model.specs.declared.answer.Answer.{Answer}
 use Rattle.nat_model.specs.declared.answer.Answer.TheVariants.{Out, Turn, In, Kept, Held, Refused}
 use Rattle.nat_model.specs.Remote.{behind, found_behind}
@@ -125,8 +125,8 @@ taken_as : (setting : Setting) (c : Passed) (six : Ends Addr6) (four : Ends Addr
 taken_as setting c six four taken fits = record { is = taken.is; payload = refl; fits = head_fits c.taken.head c.octets taken.are taken.is.is.fields; inner = content_fits c.taken.content c.taken.head.dst (within c.taken c.octets taken); six = fits }
 
 pub back_with : (mtus domain_mtus : Mtus) (id : ℕ) (q : Packet6) (six four : List ℕ) (ends : Ends Addr4) → mtus ≡ domain_mtus
-    → translation64 mtus q.head (payload_of6 q.head six) ends id q.content ≡ Some four → translation64 domain_mtus q.head (payload_of6 q.head six) ends id q.content ≡ Some four
-back_with mtus domain_mtus id q six four ends one is = subst (λ (m : Mtus). translation64 m q.head (payload_of6 q.head six) ends id q.content ≡ Some four) one is
+    → translation64 (record { mtus = mtus; ends = ends; id = id }) q.head (payload_of6 q.head six) q.content ≡ Some four → translation64 (record { mtus = domain_mtus; ends = ends; id = id }) q.head (payload_of6 q.head six) q.content ≡ Some four
+back_with mtus domain_mtus id q six four ends one is = subst (λ (m : Mtus). translation64 (record { mtus = m; ends = ends; id = id }) q.head (payload_of6 q.head six) q.content ≡ Some four) one is
 
 -- what goes over the access network is the packet, or one of its pieces
 pub not_rigid : (a b : Bool) → (a || b) ≡ false → b ≡ false
@@ -155,11 +155,11 @@ sent_there t TooBig portion six small is emitted = absurd emitted
 
 -- a later fragment is translated back with any ports
 later_back : (mtus : Mtus) (id : ℕ) (q : Packet6) (six four : List ℕ) (src dst a b c d : Addr4) (ports others : Ports) (proto : Proto) → q.content ≡ Later6 proto
-    → translation64 mtus q.head (payload_of6 q.head six) (record { src = src; dst = dst; inner_src = a; inner_dst = b; ports = ports }) id q.content ≡ Some four
-    → translation64 mtus q.head (payload_of6 q.head six) (record { src = src; dst = dst; inner_src = c; inner_dst = d; ports = others }) id q.content ≡ Some four
+    → translation64 (record { mtus = mtus; ends = (record { src = src; dst = dst; inner_src = a; inner_dst = b; ports = ports }); id = id }) q.head (payload_of6 q.head six) q.content ≡ Some four
+    → translation64 (record { mtus = mtus; ends = (record { src = src; dst = dst; inner_src = c; inner_dst = d; ports = others }); id = id }) q.head (payload_of6 q.head six) q.content ≡ Some four
 later_back mtus id q six four src dst a b c d ports others proto later is =
-    let plain = subst (λ (x : Content6). translation64 mtus q.head (payload_of6 q.head six) (record { src = src; dst = dst; inner_src = a; inner_dst = b; ports = ports }) id x ≡ Some four) later is in
-    subst (λ (x : Content6). translation64 mtus q.head (payload_of6 q.head six) (record { src = src; dst = dst; inner_src = c; inner_dst = d; ports = others }) id x ≡ Some four) (sym later) plain
+    let plain = subst (λ (x : Content6). translation64 (record { mtus = mtus; ends = (record { src = src; dst = dst; inner_src = a; inner_dst = b; ports = ports }); id = id }) q.head (payload_of6 q.head six) x ≡ Some four) later is in
+    subst (λ (x : Content6). translation64 (record { mtus = mtus; ends = (record { src = src; dst = dst; inner_src = c; inner_dst = d; ports = others }); id = id }) q.head (payload_of6 q.head six) x ≡ Some four) (sym later) plain
 
 -- what the first node did, between these ends over IPv6
 record IsThrough (setting : Setting) (c : Passed) (six : Ends Addr6) : Type 0 where
@@ -181,7 +181,7 @@ record IsOn (setting : Setting) (c : Passed) (at_relay : Bool) (id : ℕ) : Type
   lasts : 1 < c.read.head.hop
 
 comes_of : (setting : Setting) (c : Passed) (six : Ends Addr6) (four : Ends Addr4) (at_relay : Bool) (id : ℕ) (src dst : Addr4) (content : Content4) → IsThrough setting c six → IsOn setting c at_relay id
-    → translation64 setting.mtus c.read.head (payload_of6 c.read.head c.six) four id c.read.content ≡ Some c.four
+    → translation64 (record { mtus = setting.mtus; ends = four; id = id }) c.read.head (payload_of6 c.read.head c.six) c.read.content ≡ Some c.four
     → four.src ≡ src → four.dst ≡ dst → Replaces c.taken.content four content → ComesOf (crossing_with setting c (record { head = record c.taken.head { src = src; dst = dst }; content = content })) c.portion c.four
 comes_of setting c six four at_relay id src dst content is on makes is_src is_dst replaces =
     let t = transfer setting c six four in

@@ -10,9 +10,9 @@ use Rattle.ip4_packet.specs.Grammar.{HasFields4, payload_of4}
 use Rattle.octets.specs.declared.address.Addr4.{Addr4}
 use Rattle.icmp_messages.specs.declared.icmp4.Icmp4.{Icmp4}
 use Rattle.icmp_messages.specs.declared.inner4.Inner4.{Inner4}
-use Rattle.icmp_messages.specs.Inner.{IsInner4}
-use Rattle.icmp_xlat.specs.declared.table.Row.{Row}
-use Rattle.icmp_xlat.specs.Icmp46.{embedded46}
+use Rattle.icmp_messages.specs.Inner.{IsInner4, IsInner6}
+use Rattle.icmp_messages.specs.declared.table.Row.{Row}
+use Rattle.icmp_messages.specs.Extension.{embedded46, embedded64}
 use Rattle.l4_headers.specs.declared.ports.Ports.{Ports}
 use Rattle.l4_headers.specs.declared.ports.L4.{L4}
 use Rattle.l4_headers.specs.Transport.{l4_of}
@@ -21,13 +21,11 @@ use Rattle.xlat46.specs.Whole.{ArePorts}
 use Rattle.packets.specs.declared.packet4.Content4.{Content4}
 use Rattle.packets.specs.declared.packet4.Content4.TheVariants.{Segment, Later, Query, Error}
 use Rattle.packets.specs.declared.packet4.Packet4.{Packet4}
-use Rattle.packets.specs.Asked.{flow_of4}
+use Rattle.packets.specs.Asked.{flow_of4, flow_of6}
 use Rattle.packets.specs.Packet4.{IsContent4, IsErrorOf4}
 use Rattle.crossing.specs.Transfer.{FitsContent}
 use Rattle.icmp_messages.specs.declared.icmp6.Icmp6.{Icmp6}
 use Rattle.icmp_messages.specs.declared.inner6.Inner6.{Inner6}
-use Rattle.icmp_messages.specs.Inner.{IsInner6}
-use Rattle.icmp_xlat.specs.Icmp64.{embedded64}
 use Rattle.ip6_packet.specs.declared.head.Head6.{Head6}
 use Rattle.ip6_packet.specs.Grammar.{payload_of6}
 use Rattle.nat_model.specs.declared.ask.Ask.{Ask}
@@ -35,7 +33,6 @@ use Rattle.packets.specs.declared.asked.Flow.{Flow}
 use Rattle.packets.specs.declared.packet6.Content6.{Content6}
 use Rattle.packets.specs.declared.packet6.Content6.TheVariants.{Segment as Segment6, Later as Later6, Query as Query6, Error as Error6}
 use Rattle.packets.specs.declared.packet6.Packet6.{Packet6}
-use Rattle.packets.specs.Asked.{flow_of6}
 use Rattle.packets.specs.Packet6.{IsPacket6, IsContent6}
 use Rattle.edge_node.specs.declared.way.Way.{Way}
 use Rattle.edge_node.specs.declared.way.Way.TheVariants.{Lan, Access, Turned}

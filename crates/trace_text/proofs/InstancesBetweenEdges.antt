@@ -12,8 +12,8 @@ use Rattle.frag_table.specs.declared.note.Note.{Note}
 use Rattle.frag_table.specs.Frag.{frag}
 use Rattle.icmp_messages.specs.declared.icmp4.Icmp4.{Icmp4}
 use Rattle.icmp_messages.specs.declared.icmp6.Icmp6.{Icmp6}
-use Rattle.icmp_xlat.specs.Table.{row}
-use Rattle.icmp_xlat.specs.declared.table.Rest.TheVariants.{Zero, Pointer}
+use Rattle.icmp_messages.specs.Table.{row}
+use Rattle.icmp_messages.specs.declared.table.Rest.TheVariants.{Zero, Pointer}
 use Rattle.std.proofs.lemmas.Bool.{false≢true}
 use Rattle.icmp_messages.specs.declared.inner4.Inner4.{Inner4}
 use Rattle.icmp_messages.specs.declared.inner6.Inner6.{Inner6}

@@ -8,6 +8,7 @@ use Rattle.octets.specs.declared.mtus.Mtus.{Mtus}
 use Rattle.octets.specs.declared.parcel.Parcel.{Parcel}
 use Rattle.octets.specs.declared.proto.Proto.{Proto}
 use Rattle.octets.specs.declared.address.Addr4.{Addr4}
+use Rattle.octets.specs.declared.address.Addr6.{Addr6}
 use Rattle.ip4_packet.specs.declared.head.Head4.{Head4}
 use Rattle.ip4_packet.specs.Grammar.{payload_of4}
 use Rattle.ip6_packet.specs.declared.head.Head6.{Head6}
@@ -21,12 +22,15 @@ use Rattle.frag_table.specs.declared.answer.FragAnswer.TheVariants.{Noted, Known
 use Rattle.nat_model.specs.declared.answer.Answer.{Answer}
 use Rattle.nat_model.specs.declared.answer.Answer.TheVariants.{Out as LetOut, Turn as TurnedBack, In as LetIn, Kept, Held as HeldBack, Refused}
 use Rattle.nat_model.specs.Waiting.{freed_of}
-use Rattle.packet_faults.specs.declared.hop.Hop.{Hop}
-use Rattle.packet_faults.specs.declared.hop.Out.{Out}
-use Rattle.packet_faults.specs.declared.hop.Out.TheVariants.{Lan as OnLan, Access as OnAccess, Core as InCore, Turn as ToTurn}
+use Rattle.hops.specs.declared.hop.Hop.{Hop}
+use Rattle.hops.specs.declared.hop.Out.{Out}
+use Rattle.hops.specs.declared.hop.Out.TheVariants.{Lan as OnLan, Access as OnAccess, Core as InCore, Turn as ToTurn}
 use Rattle.packet_faults.specs.Cut.{step_of}
 use Rattle.packets.specs.declared.asked.Extent.{Extent}
 use Rattle.packets.specs.declared.asked.Extent.TheVariants.{Whole, First, Later}
+use Rattle.packets.specs.declared.found.Found.{Found}
+use Rattle.packets.specs.declared.found.Found.TheVariants.{Taken as TakenAs, Unreadable, Dropped}
+use Rattle.packets.specs.Found.{IsFound4, IsFound6}
 use Rattle.packets.specs.declared.packet4.Content4.{Content4}
 use Rattle.packets.specs.declared.packet4.Content4.TheVariants.{Segment as Segment4, Later as Later4, Query as Query4, Error as Error4}
 use Rattle.packets.specs.declared.packet4.Packet4.{Packet4}
@@ -36,20 +40,20 @@ use Rattle.packets.specs.declared.packet6.Packet6.{Packet6}
 use Rattle.packets.specs.Asked.{flow_of4, flow_of6, extent_of, extent_of4, extent_of6, key_of4, key_of6}
 use Rattle.packets.specs.Packet4.{IsPacket4, IsContent4}
 use Rattle.packets.specs.Packet6.{IsPacket6, IsContent6}
-use Rattle.transit.specs.declared.exit.Exit.{Exit}
-use Rattle.transit.specs.declared.exit.Exit.TheVariants.{ToLan, ToAccess, ToCore, ToItself}
+use Rattle.hops.specs.declared.exit.Exit.{Exit}
+use Rattle.hops.specs.declared.exit.Exit.TheVariants.{ToLan, ToAccess, ToCore, ToItself}
 use Rattle.transit.specs.declared.passage.Passage.{Passage}
 use Rattle.transit.specs.declared.passage.Passage.TheVariants.{Sent, Cut, Spent, TooBig}
-use Rattle.transit.specs.Hop.{leaving, nothing, sends, sends_pieces, drops, then, IsCarried, AreFreed}
+use Rattle.hops.specs.Hop.{leaving, nothing, sends, sends_pieces, drops, then, IsCarried, AreFreed, IsMade, lost}
 use Rattle.edge_node.specs.declared.way.EdgeParams.{EdgeParams}
 use Rattle.edge_node.specs.declared.way.Way.TheVariants.{Lan, Access}
 use Rattle.turned_packets.specs.Turned.{turned_out}
 use Rattle.edge_node.specs.Hop.{Drops, Becomes, Own, IsLaterAt, IsEdgeHop}
 use Rattle.relay_node.specs.Asked.{asked, from_access, from_ipv4, MayBeTold, IsTold}
-use Rattle.relay_node.specs.Relay.{Relay, source_port, destination_port, own_of, extracted, source_addr, exit_of, lost}
-use Rattle.relay_node.specs.FromAccess.{Becomes6, IsSent6, IsRefused6, IsLaterFragment6, IsOne6, AreFreed6}
-use Rattle.relay_node.specs.FromIpv4.{Becomes4, IsSent4, IsRefused4, IsLaterFragment4, IsOne4, AreFreed4}
-use Rattle.relay_node.specs.Hop.{IsAnswered, IsRelayHop}
+use Rattle.relay_node.specs.Relay.{Relay, source_port, destination_port, own_of, extracted, source_addr, exit_of}
+use Rattle.relay_node.specs.FromAccess.{IsPassed6, Becomes6, IsSent6, IsRefused6, IsLaterFragment6, IsOne6, AreFreed6}
+use Rattle.relay_node.specs.FromIpv4.{ends46, IsPassed4, Becomes4, IsSent4, IsRefused4, IsLaterFragment4, IsOne4, AreFreed4}
+use Rattle.relay_node.specs.Hop.{IsAnswered, IsTaken4, IsTaken6, IsRelayHop}
 use Rattle.rule_book.specs.Owner.{covers_of}
 use Rattle.map_rules.specs.declared.rule.Rule.{Rule}
 use Rattle.crossing.specs.Named.{Portion, uncut, piece_at}
@@ -147,22 +151,26 @@ freed_out IsLater OnePart (p ∷ parcels) hop k out is e =
 
 -- ---- a packet that is carried over IPv6
 
-carried_over : (Dropped : Cause → Hop → Type 0) (mtus : Mtus) (passage : Passage) (hop : Hop) (k : ℕ) (six : List ℕ) → ((cause : Cause) → Dropped cause hop → slice_get hop.outs k ≡ Some (OnAccess six) → ⊥)
-    → IsCarried Dropped ToAccess passage hop → slice_get hop.outs k ≡ Some (OnAccess six) → (portion : Portion) × IsEmitted mtus passage portion six
-carried_over Dropped mtus (Sent octets) hop k six never is e =
+carried_over : (Loses : Cause → Hop → Type 0) (mtus : Mtus) (passage : Passage) (hop : Hop) (k : ℕ) (six : List ℕ) → ((cause : Cause) → Loses cause hop → slice_get hop.outs k ≡ Some (OnAccess six) → ⊥)
+    → IsCarried Loses ToAccess passage hop → slice_get hop.outs k ≡ Some (OnAccess six) → (portion : Portion) × IsEmitted mtus passage portion six
+carried_over Loses mtus (Sent octets) hop k six never is e =
     (uncut, access_octets octets six (alone (OnAccess octets) (OnAccess six) k (out_of hop (sends ToAccess octets) k (OnAccess six) is e)))
-carried_over Dropped mtus (Cut pieces) hop k six never is e =
+carried_over Loses mtus (Cut pieces) hop k six never is e =
     let found = piece_of ToAccess pieces k (OnAccess six) (out_of hop (sends_pieces ToAccess pieces) k (OnAccess six) is e) in
     (piece_at (k * step_of mtus.mtu6), (k, found.0, found.1, access_octets (found.0).bytes six found.2, refl))
-carried_over Dropped mtus Spent hop k six never is e = absurd (never TtlSpent is e)
-carried_over Dropped mtus TooBig hop k six never is e = absurd (never IsTooBig is e)
+carried_over Loses mtus Spent hop k six never is e = absurd (never TtlSpent is e)
+carried_over Loses mtus TooBig hop k six never is e = absurd (never IsTooBig is e)
 
 -- ---- an edge, from its LAN
 
+lost_over : (cause : Cause) (hop : Hop) (k : ℕ) (out : Out) → hop ≡ lost cause → slice_get hop.outs k ≡ Some out → ⊥
+lost_over cause hop k out is e = none_of k out (out_of hop (lost cause) k out is e)
+
 lan_drops : (params : EdgeParams) (id : ℕ) (octets six : List ℕ) (cause : Cause) (hop : Hop) (k : ℕ) → Drops (record { params = params; id = id }) Lan octets cause hop → slice_get hop.outs k ≡ Some (OnAccess six) → ⊥
-lan_drops params id octets six cause hop k is e =
-    let reply = reply_of cause ToLan is.0 k (OnAccess six) (out_of hop (drops cause ToLan is.0) k (OnAccess six) is.2 e) in
-    lan_or_access reply.0 six reply.1
+lan_drops params id octets six cause hop k (inl unanswered) e = lost_over cause hop k (OnAccess six) unanswered.1 e
+lan_drops params id octets six cause hop k (inr (h, has, (reply, answer, is))) e =
+    let told = reply_of cause ToLan reply k (OnAccess six) (out_of hop (drops cause ToLan reply) k (OnAccess six) is e) in
+    lan_or_access told.0 six told.1
 
 lan_emits : (params : EdgeParams) (id : ℕ) (answer : Answer) (octets six : List ℕ) (hop : Hop) (k : ℕ) → Becomes (record { params = params; id = id }) Lan answer octets hop → slice_get hop.outs k ≡ Some (OnAccess six) → EdgeEmits params.mtus answer octets six
 lan_emits params id (LetOut from port src6 dst6 freed) octets six hop k is e =
@@ -199,9 +207,10 @@ edge_emits params id answer octets six hop k is e =
 -- ---- an edge, from the access network
 
 access_drops : (params : EdgeParams) (id : ℕ) (octets four : List ℕ) (cause : Cause) (hop : Hop) (k : ℕ) → Drops (record { params = params; id = id }) Access octets cause hop → slice_get hop.outs k ≡ Some (OnLan four) → ⊥
-access_drops params id octets four cause hop k is e =
-    let reply = reply_of cause ToAccess is.0 k (OnLan four) (out_of hop (drops cause ToAccess is.0) k (OnLan four) is.2 e) in
-    access_or_lan reply.0 four reply.1
+access_drops params id octets four cause hop k (inl unanswered) e = lost_over cause hop k (OnLan four) unanswered.1 e
+access_drops params id octets four cause hop k (inr (h, has, (reply, answer, is))) e =
+    let told = reply_of cause ToAccess reply k (OnLan four) (out_of hop (drops cause ToAccess reply) k (OnLan four) is e) in
+    access_or_lan told.0 four told.1
 
 abbrev station_of : EdgeParams → ℕ → Station
 station_of params id = record { mtus = params.mtus; id = id }
@@ -285,7 +294,7 @@ known_later Whole key ports first octets told = absurd told
 known_later First key ports first octets told = absurd told
 known_later Later key ports first octets told = refl
 
-refused4_over : (relay : Relay) (h : Head4) (octets six : List ℕ) (cause : Cause) (hop : Hop) (k : ℕ) → IsRefused4 relay h octets cause hop → slice_get hop.outs k ≡ Some (OnAccess six) → ⊥
+refused4_over : (relay : Relay) (h : Head4) (octets six : List ℕ) (cause : Cause) (hop : Hop) (k : ℕ) → IsRefused4 relay octets h cause hop → slice_get hop.outs k ≡ Some (OnAccess six) → ⊥
 refused4_over relay h octets six cause hop k is e =
     let reply = reply_of cause (exit_of relay.rules h.src) is.0 k (OnAccess six) (out_of hop (drops cause (exit_of relay.rules h.src) is.0) k (OnAccess six) is.2 e) in
     by (covers_of relay.rules h.src.0) reply.0 reply.1
@@ -294,17 +303,14 @@ refused4_over relay h octets six cause hop k is e =
     by true xs is_out = turn_or_access xs six is_out
     by false xs is_out = core_or_access xs six is_out
 
-lost_over : (cause : Cause) (hop : Hop) (k : ℕ) (out : Out) → hop ≡ lost cause → slice_get hop.outs k ≡ Some out → ⊥
-lost_over cause hop k out is e = none_of k out (out_of hop (lost cause) k out is e)
-
 becomes4_emits : (relay : Relay) (p : Packet4) (octets six : List ℕ) (ports : Ports) (hop : Hop) (k : ℕ) → IsPacket4 p octets → ArePortsOf4 p.content ports → Becomes4 relay p octets ports hop → slice_get hop.outs k ≡ Some (OnAccess six)
     → RelayEmits relay octets six
 becomes4_emits relay p octets six ports hop k packet flow is e = by (own_of relay p.head.dst (destination_port (flow_of4 p.content).fault ports)) refl is
   where
-    by : (own : Option ℕ) → own_of relay p.head.dst (destination_port (flow_of4 p.content).fault ports) ≡ own → IsSent4 relay p octets ports own hop → RelayEmits relay octets six
+    by : (own : Option ℕ) → own_of relay p.head.dst (destination_port (flow_of4 p.content).fault ports) ≡ own → IsSent4 (λ (own : Addr6). IsPassed4 relay p octets (ends46 relay p own ports)) own hop → RelayEmits relay octets six
     by None one sent = absurd (lost_over NoOwner hop k (OnAccess six) sent e)
     by (Some own) one sent =
-        let over = carried_over (IsRefused4 relay p.head octets) relay.params.mtus sent.0 hop k six (λ cause dropped at. refused4_over relay p.head octets six cause hop k dropped at) sent.2 e in
+        let over = carried_over (IsRefused4 relay octets p.head) relay.params.mtus sent.0 hop k six (λ cause dropped at. refused4_over relay p.head octets six cause hop k dropped at) sent.2 e in
         record {
           taken = p;
           is = packet;
@@ -350,11 +356,13 @@ answered4_emits relay p octets six (Some (Released parcels)) hop k packet may is
 answered4_emits relay p octets six (Some Full) hop k packet may is e = absurd (lost_over FragmentsFull hop k (OnAccess six) is e)
 
 pub relay_emits : (relay : Relay) (told : Option FragAnswer) (octets six : List ℕ) (hop : Hop) (k : ℕ) → IsTold false octets told → IsRelayHop relay false octets told hop → slice_get hop.outs k ≡ Some (OnAccess six) → EmitsOne relay octets told six
-relay_emits relay told octets six hop k may (inl faulty) e = absurd (elim faulty.2 [
-  | inl unanswered ↦ lost_over faulty.0 hop k (OnAccess six) unanswered.1 e
-  | inr refused ↦ refused4_over relay refused.0 octets six faulty.0 hop k refused.2 e
-])
-relay_emits relay told octets six hop k may (inr is) e = answered4_emits relay is.0 octets six told hop k is.1 (may.kind (asked (extent_of4 (is.0).head) (key_of4 from_ipv4 (is.0).head) (flow_of4 (is.0).content).ports octets) (is.0, is.1, refl)) is.2 e
+relay_emits relay told octets six hop k may (found, read, made) e = by found read made
+  where
+    by : (found : Found Packet4 Head4) → IsFound4 octets found → IsMade (IsTaken4 relay octets told) (IsRefused4 relay octets) found hop → EmitsOne relay octets told six
+    by (TakenAs p) read made =
+        answered4_emits relay p octets six told hop k read (may.kind (asked (extent_of4 p.head) (key_of4 from_ipv4 p.head) (flow_of4 p.content).ports octets) (p, read, refl)) made e
+    by (Unreadable cause) read made = absurd (lost_over cause hop k (OnAccess six) made e)
+    by (Dropped cause h) read made = absurd (refused4_over relay h octets six cause hop k made e)
 
 -- ---- the relay, from the access network
 
@@ -372,7 +380,7 @@ access_never : (xs four : List ℕ) (out : Out) → OnAccess xs ≡ out → IsOn
 access_never xs four out e (inl core) = (let h : OnAccess xs ≡ InCore four = e ∙ core in cc)
 access_never xs four out e (inr turn) = (let h : OnAccess xs ≡ ToTurn four = e ∙ turn in cc)
 
-refused6_over : (relay : Relay) (h : Head6) (octets four : List ℕ) (cause : Cause) (hop : Hop) (k : ℕ) (out : Out) → IsRefused6 relay h octets cause hop → slice_get hop.outs k ≡ Some out → IsOnIpv4 four out → ⊥
+refused6_over : (relay : Relay) (h : Head6) (octets four : List ℕ) (cause : Cause) (hop : Hop) (k : ℕ) (out : Out) → IsRefused6 relay octets h cause hop → slice_get hop.outs k ≡ Some out → IsOnIpv4 four out → ⊥
 refused6_over relay h octets four cause hop k out is e on =
     let reply = reply_of cause ToAccess is.0 k out (out_of hop (drops cause ToAccess is.0) k out is.2 e) in
     access_never reply.0 four out reply.1 on
@@ -381,7 +389,7 @@ becomes6_delivers : (relay : Relay) (q : Packet6) (octets four : List ℕ) (port
     → RelayDelivers relay octets four
 becomes6_delivers relay q octets four ports hop k out packet flow is e on = by (source_addr relay q.head.src (source_port (flow_of6 q.content).fault ports)) (extracted relay.dmr q.head.dst) refl refl is
   where
-    passed : (passage : Passage) (src : Addr4) (dst : ℕ) → RelayReceives relay q octets passage → IsCarried (IsRefused6 relay q.head octets) (exit_of relay.rules (record { 0 = dst })) passage hop → RelayDelivers relay octets four
+    passed : (passage : Passage) (src : Addr4) (dst : ℕ) → RelayReceives relay q octets passage → IsCarried (IsRefused6 relay octets q.head) (exit_of relay.rules (record { 0 = dst })) passage hop → RelayDelivers relay octets four
     passed (Sent sent) src dst got carried =
         let same = over4 relay.rules (record { 0 = dst }) sent four out (alone (leaving (exit_of relay.rules (record { 0 = dst })) sent) out k (out_of hop (sends (exit_of relay.rules (record { 0 = dst })) sent) k out carried e)) on in
         record { read = q; arrives = packet; received = subst (λ (xs : List ℕ). RelayReceives relay q octets (Sent xs)) same got }
@@ -389,7 +397,7 @@ becomes6_delivers relay q octets four ports hop k out packet flow is e on = by (
     passed Spent src dst got carried = absurd (refused6_over relay q.head octets four TtlSpent hop k out carried e on)
     passed TooBig src dst got carried = absurd (refused6_over relay q.head octets four IsTooBig hop k out carried e on)
 
-    by : (src : Option Addr4) (dst : Option ℕ) → source_addr relay q.head.src (source_port (flow_of6 q.content).fault ports) ≡ src → extracted relay.dmr q.head.dst ≡ dst → IsSent6 relay q octets ports src dst hop → RelayDelivers relay octets four
+    by : (src : Option Addr4) (dst : Option ℕ) → source_addr relay q.head.src (source_port (flow_of6 q.content).fault ports) ≡ src → extracted relay.dmr q.head.dst ≡ dst → IsSent6 (IsPassed6 relay q octets) ports src dst hop → RelayDelivers relay octets four
     by None dst one other sent = absurd (lost_over Spoofed hop k out sent e)
     by (Some src) None one other sent = absurd (lost_over NotDefault hop k out sent e)
     by (Some src) (Some dst) one other sent =
@@ -433,8 +441,10 @@ answered6_delivers relay q octets four (Some Full) hop k out packet may is e on 
 
 pub relay_delivers : (relay : Relay) (told : Option FragAnswer) (octets four : List ℕ) (hop : Hop) (k : ℕ) (out : Out) → IsTold true octets told → IsRelayHop relay true octets told hop → slice_get hop.outs k ≡ Some out → IsOnIpv4 four out
     → DeliversOne relay octets told four
-relay_delivers relay told octets four hop k out may (inl faulty) e on = absurd (elim faulty.2 [
-  | inl unanswered ↦ lost_over faulty.0 hop k out unanswered.1 e
-  | inr refused ↦ refused6_over relay refused.0 octets four faulty.0 hop k out refused.2 e on
-])
-relay_delivers relay told octets four hop k out may (inr is) e on = answered6_delivers relay is.0 octets four told hop k out is.1 (may.kind (asked (extent_of6 (is.0).head) (key_of6 from_access (is.0).head) (flow_of6 (is.0).content).ports octets) (is.0, is.1, refl)) is.2 e on
+relay_delivers relay told octets four hop k out may (found, read, made) e on = by found read made
+  where
+    by : (found : Found Packet6 Head6) → IsFound6 true octets found → IsMade (IsTaken6 relay octets told) (IsRefused6 relay octets) found hop → DeliversOne relay octets told four
+    by (TakenAs q) read made =
+        answered6_delivers relay q octets four told hop k out read (may.kind (asked (extent_of6 q.head) (key_of6 from_access q.head) (flow_of6 q.content).ports octets) (q, read, refl)) made e on
+    by (Unreadable cause) read made = absurd (lost_over cause hop k out made e)
+    by (Dropped cause h) read made = absurd (refused6_over relay h octets four cause hop k out made e on)

@@ -8,11 +8,11 @@ use Rattle.octets.specs.declared.address.Addr6.{Addr6}
 use Rattle.icmp_messages.specs.declared.icmp6.Icmp6.{Icmp6}
 use Rattle.icmp_messages.specs.declared.inner4.Inner4.{Inner4}
 use Rattle.icmp_messages.specs.declared.inner6.Inner6.{Inner6}
-use Rattle.icmp_xlat.specs.declared.table.Row.{Row}
+use Rattle.icmp_messages.specs.declared.table.Row.{Row}
 use Rattle.packets.specs.declared.asked.Flow.{Flow}
 use Rattle.packets.specs.declared.packet6.Content6.TheVariants.{Later as Later6, Error as Error6}
 use Rattle.xlat46.specs.Whole.{ArePorts}
-use Rattle.icmp_xlat.specs.declared.ends.Ends.{Ends}
+use Rattle.l4_headers.specs.declared.ends.Ends.{Ends}
 use Rattle.packets.specs.declared.packet4.Content4.{Content4}
 use Rattle.packets.specs.declared.packet4.Content4.TheVariants.{Segment, Later, Query, Error}
 use Rattle.packets.specs.declared.packet6.Content6.{Content6}

@@ -14,7 +14,7 @@ use Rattle.xlat46.specs.Whole.{ArePorts}
 use Rattle.ip6_packet.specs.Grammar.{payload_of6}
 use Rattle.l4_headers.specs.declared.ports.Ports.{Ports}
 use Rattle.packet_faults.specs.Cut.{step_of}
-use Rattle.icmp_xlat.specs.declared.ends.Ends.{Ends}
+use Rattle.l4_headers.specs.declared.ends.Ends.{Ends}
 use Rattle.packets.specs.declared.packet4.Content4.{Content4}
 use Rattle.packets.specs.declared.packet4.Content4.TheVariants.{Segment, Later, Query, Error}
 use Rattle.packets.specs.declared.packet4.Packet4.{Packet4}
@@ -22,23 +22,21 @@ use Rattle.packets.specs.declared.packet6.Content6.{Content6}
 use Rattle.packets.specs.declared.packet6.Content6.TheVariants.{Later as Later6}
 use Rattle.packets.specs.declared.packet6.Packet6.{Packet6}
 use Rattle.packets.specs.Packet6.{IsPacket6}
-use Rattle.transit.specs.Passage46.{is_message4}
+use Rattle.transit.specs.Passage46.{is_message4, IsPassage46}
 use Rattle.transit.specs.Passage64.{translation64}
 use Rattle.crossing.specs.Named.{piece_at}
 use Rattle.crossing.specs.Pieces.{Arrived, IsCutInto, PieceBack, AreBack, arrived_by, ComeTogether}
-use Rattle.crossing.specs.Transfer.{Transfer, FitsPorts, IsTakenAs, IsPieceThere, IsBack, with_ends, packet_with}
+use Rattle.crossing.specs.Transfer.{Transfer, FitsPorts, IsTakenAs, IsPieceThere, IsBack, with_ends, packet_with, FitsEnds}
 use Rattle.crossing.proofs.Over.{seen, FlowMay, piece_fragment}
 use Rattle.crossing.proofs.Uncut.{FlowIs}
 use Rattle.crossing.proofs.Together.{comes_together}
 use Rattle.crossing.specs.Nat44.{nat44, packet_from, packet_to, content_from, content_to}
-use Rattle.crossing.specs.Transfer.{FitsEnds}
 use Rattle.map_rules.specs.declared.dmr.Dmr.{Dmr}
 use Rattle.nat_model.specs.declared.answer.Answer.{Answer}
 use Rattle.nat_model.specs.declared.answer.Answer.TheVariants.{Out, Turn, In, Kept, Held, Refused}
 use Rattle.packets.specs.Asked.{flow_of4, flow_of6}
 use Rattle.transit.specs.declared.passage.Passage.TheVariants.{Sent, Cut}
-use Rattle.transit.specs.Passage46.{IsPassage46}
-use Rattle.xlat46.specs.Head.{is_fragment}
+use Rattle.ip4_packet.specs.Fragment.{is_fragment}
 use Rattle.edge_node.specs.Asked.{near_addr6}
 use Rattle.edge_node.specs.Ends.{ends_out, ends_in, with_far_port}
 use Rattle.relay_node.specs.Relay.{Relay, source_port, embedded_in}
@@ -59,19 +57,19 @@ use Rattle.trace_text.proofs.Ports.{near_fits, PortsAre, InnerBoth, source_given
 
 -- a later fragment is translated by its outer addresses alone
 later_outer : (mtus : Mtus) (head : Head6) (payload : List ℕ) (one other : Ends Addr4) (id : ℕ) (proto : Proto) → one.src ≡ other.src → one.dst ≡ other.dst
-    → translation64 mtus head payload one id (Later6 proto) ≡ translation64 mtus head payload other id (Later6 proto)
+    → translation64 (record { mtus = mtus; ends = one; id = id }) head payload (Later6 proto) ≡ translation64 (record { mtus = mtus; ends = other; id = id }) head payload (Later6 proto)
 later_outer mtus head payload one other id proto src dst =
-    ap (λ (a : Addr4). translation64 mtus head payload (record one { src = a }) id (Later6 proto)) src
-    ∙ ap (λ (a : Addr4). translation64 mtus head payload (record other { dst = a }) id (Later6 proto)) dst
+    ap (λ (a : Addr4). translation64 (record { mtus = mtus; ends = (record one { src = a }); id = id }) head payload (Later6 proto)) src
+    ∙ ap (λ (a : Addr4). translation64 (record { mtus = mtus; ends = (record other { dst = a }); id = id }) head payload (Later6 proto)) dst
 
 later_given : (mtus : Mtus) (head : Head6) (payload four : List ℕ) (one other : Ends Addr4) (id : ℕ) (proto : Proto) (q : Content6) → q ≡ Later6 proto → one.src ≡ other.src → one.dst ≡ other.dst
-    → translation64 mtus head payload one id q ≡ Some four → translation64 mtus head payload other id q ≡ Some four
+    → translation64 (record { mtus = mtus; ends = one; id = id }) head payload q ≡ Some four → translation64 (record { mtus = mtus; ends = other; id = id }) head payload q ≡ Some four
 later_given mtus head payload four one other id proto q later src dst is =
-    let plain = subst (λ (x : Content6). translation64 mtus head payload one id x ≡ Some four) later is in
-    subst (λ (x : Content6). translation64 mtus head payload other id x ≡ Some four) (sym later) (sym (later_outer mtus head payload one other id proto src dst) ∙ plain)
+    let plain = subst (λ (x : Content6). translation64 (record { mtus = mtus; ends = one; id = id }) head payload x ≡ Some four) later is in
+    subst (λ (x : Content6). translation64 (record { mtus = mtus; ends = other; id = id }) head payload x ≡ Some four) (sym later) (sym (later_outer mtus head payload one other id proto src dst) ∙ plain)
 
 given_back : (content : Content4) (mtus : Mtus) (head : Head6) (payload four : List ℕ) (six : Ends Addr6) (one other : Ends Addr4) (id : ℕ) (q : Content6) → is_message4 content ≡ false → FlowMay content six q → one.src ≡ other.src → one.dst ≡ other.dst
-    → (FlowIs content six q → PortsAre content one.ports other.ports) → translation64 mtus head payload one id q ≡ Some four → translation64 mtus head payload other id q ≡ Some four
+    → (FlowIs content six q → PortsAre content one.ports other.ports) → translation64 (record { mtus = mtus; ends = one; id = id }) head payload q ≡ Some four → translation64 (record { mtus = mtus; ends = other; id = id }) head payload q ≡ Some four
 given_back (Segment proto l4) mtus head payload four six one other id q flows (inl flow) src dst ports is = sym (flow.outer mtus head payload one other id src dst (ports flow)) ∙ is
 given_back (Later proto) mtus head payload four six one other id q flows (inl flow) src dst ports is = later_given mtus head payload four one other id proto q flow src dst is
 given_back (Query m row) mtus head payload four six one other id q flows (inl flow) src dst ports is = absurd (false≢true (sym flows))

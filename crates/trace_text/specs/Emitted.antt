@@ -2,12 +2,12 @@
 -- with an answer.
 use Rattle.std.specs.Prelude.{ℕ, List}
 use Rattle.nat_model.specs.declared.answer.Answer.{Answer}
-use Rattle.packet_faults.specs.declared.hop.Hop.{Hop}
+use Rattle.hops.specs.declared.hop.Hop.{Hop}
 use Rattle.packets.specs.declared.packet4.Packet4.{Packet4}
 use Rattle.packets.specs.declared.packet6.Packet6.{Packet6}
-use Rattle.transit.specs.declared.exit.Exit.TheVariants.{ToAccess, ToLan}
+use Rattle.hops.specs.declared.exit.Exit.TheVariants.{ToAccess, ToLan}
 use Rattle.transit.specs.declared.passage.Passage.{Passage}
-use Rattle.transit.specs.Hop.{IsCarried}
+use Rattle.hops.specs.Hop.{IsCarried}
 use Rattle.edge_node.specs.declared.way.EdgeParams.{EdgeParams}
 use Rattle.edge_node.specs.declared.way.Way.TheVariants.{Lan, Access}
 use Rattle.edge_node.specs.Hop.{Drops}

@@ -6,8 +6,8 @@ use Rattle.octets.specs.declared.parcel.Parcel.{Parcel}
 use Rattle.frag_table.specs.declared.answer.FragAnswer.{FragAnswer}
 use Rattle.frag_table.specs.Frag.{freed_by}
 use Rattle.nat_model.specs.declared.answer.Answer.{Answer}
-use Rattle.packet_faults.specs.declared.hop.Out.{Out}
-use Rattle.packet_faults.specs.declared.hop.Out.TheVariants.{Core, Turn}
+use Rattle.hops.specs.declared.hop.Out.{Out}
+use Rattle.hops.specs.declared.hop.Out.TheVariants.{Core, Turn}
 use Rattle.packets.specs.declared.packet4.Packet4.{Packet4}
 use Rattle.packets.specs.declared.packet6.Packet6.{Packet6}
 use Rattle.packets.specs.Packet4.{IsPacket4}

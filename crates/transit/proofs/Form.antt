@@ -19,10 +19,11 @@ use Rattle.ip6_packet.specs.Causes.{IsWrongFrag6}
 use Rattle.ip6_packet.specs.Written.{written6, IsUpper, IsInRange, FitsFrag}
 use Rattle.l4_headers.proofs.Laws.{length-with_l4}
 use Rattle.l4_headers.proofs.RightSums.{header_stands}
-use Rattle.xlat46.specs.Head.{is_fragment, upper_protocol, translated}
+use Rattle.xlat46.specs.Head.{upper_protocol, translated}
+use Rattle.ip4_packet.specs.Fragment.{is_fragment}
 use Rattle.xlat46.specs.Whole.{Parts4, packet46, payload46}
 use Rattle.xlat46.proofs.Placed.{placed}
-use Rattle.icmp_xlat.specs.declared.ends.Ends.{Ends}
+use Rattle.l4_headers.specs.declared.ends.Ends.{Ends}
 use Rattle.packet_faults.specs.Cut.{IsCuttable}
 use Rattle.packets.specs.declared.packet4.Content4.{Content4}
 use Rattle.packets.specs.declared.packet4.Content4.TheVariants.{Segment, Later, Query, Error}

@@ -4,29 +4,21 @@ use Rattle.std.specs.Prelude.{Option, slice_get}
 use Rattle.std.proofs.lemmas.Bool.{cases_lt}
 use Rattle.octets.specs.declared.address.Addr4.{Addr4}
 use Rattle.octets.specs.declared.address.Addr6.{Addr6}
-use Rattle.octets.specs.declared.cause.Cause.{Cause}
-use Rattle.octets.specs.declared.cause.Cause.TheVariants.{SourceRoute, TtlSpent, TooBig as IsTooBig}
 use Rattle.octets.specs.declared.mtus.Mtus.{Mtus}
 use Rattle.octets.specs.declared.parcel.Parcel.{Parcel}
-use Rattle.ip4_packet.specs.declared.head.Head4.{Head4}
 use Rattle.ip6_packet.specs.declared.head.Head6.{Head6}
 use Rattle.ip6_packet.proofs.EmbeddedLemmas.{headers_of6}
 use Rattle.ip6_packet.proofs.WrittenLemmas.{written_is6}
-use Rattle.icmp_xlat.specs.declared.ends.Ends.{Ends}
-use Rattle.packet_faults.specs.declared.hop.Hop.{Hop}
+use Rattle.l4_headers.specs.declared.ends.Ends.{Ends}
 use Rattle.packet_faults.specs.Cut.{Cutting, cut_for, AreCut, IsCuttable}
-use Rattle.packet_faults.specs.Error.{Notice}
 use Rattle.packet_faults.proofs.CutLemmas.{found}
 use Rattle.packets.specs.declared.packet4.Packet4.{Packet4}
 use Rattle.packets.specs.declared.packet6.Packet6.{Packet6}
-use Rattle.packets.specs.OneOf.{IsOneAtMost}
-use Rattle.transit.specs.declared.exit.Exit.{Exit}
 use Rattle.transit.specs.declared.passage.Passage.{Passage}
 use Rattle.transit.specs.declared.passage.Passage.TheVariants.{Sent, Cut, Spent, TooBig}
-use Rattle.transit.specs.Hop.{then, IsCarried, IsFreed, AreFreed}
 use Rattle.transit.specs.Passage46.{translation46, AreCutOf, IsPassage46}
-use Rattle.transit.specs.Passage64.{Way64, translation64, IsPassage64}
-use Rattle.transit.specs.Reply.{has_notice, notice4, notice6, IsAnswer4, IsAnswer6}
+use Rattle.transit.specs.Passage64.{translation64, IsPassage64}
+use Rattle.icmp_xlat.specs.declared.passing.Passing.{Passing}
 
 -- what an option has is one
 one_in : {A : Type 0} (found : Option A) (one other : A) → found ≡ Some one → found ≡ Some other → one ≡ other
@@ -88,76 +80,21 @@ one_passage46 mtus p payload ends TooBig (Sent y) a b = absurd (apart mtus.mtu6 
 one_passage46 mtus p payload ends TooBig (Cut y) a b = absurd (let e : true ≡ false = sym a.1.3 ∙ b.1.3 in cc)
 one_passage46 mtus p payload ends TooBig TooBig a b = refl
 
-pub one_passage64 : (way : Way64) (p : Packet6) (payload : List ℕ) (one other : Passage) → IsPassage64 way p payload one → IsPassage64 way p payload other → one ≡ other
+pub one_passage64 : (way : Passing Addr4) (p : Packet6) (payload : List ℕ) (one other : Passage) → IsPassage64 way p payload one → IsPassage64 way p payload other → one ≡ other
 one_passage64 way p payload Spent Spent a b = refl
 one_passage64 way p payload Spent (Sent y) a b = absurd (omega (arith, a, b.0))
 one_passage64 way p payload Spent TooBig a b = absurd (omega (arith, a, b.0))
 one_passage64 way p payload (Sent x) Spent a b = absurd (omega (arith, b, a.0))
-one_passage64 way p payload (Sent x) (Sent y) a b = ap Sent (one_in (translation64 way.mtus p.head payload way.ends way.id p.content) x y a.1 b.1)
+one_passage64 way p payload (Sent x) (Sent y) a b = ap Sent (one_in (translation64 way p.head payload p.content) x y a.1 b.1)
 one_passage64 way p payload (Sent x) TooBig a b =
-    let same : x ≡ b.1.0 = one_in (translation64 way.mtus p.head payload way.ends way.id p.content) x b.1.0 a.1 b.1.1 in
+    let same : x ≡ b.1.0 = one_in (translation64 way p.head payload p.content) x b.1.0 a.1 b.1.1 in
     absurd (omega (arith, ap length same, a.2, b.1.2))
 one_passage64 way p payload TooBig Spent a b = absurd (omega (arith, b, a.0))
 one_passage64 way p payload TooBig (Sent y) a b =
-    let same : y ≡ a.1.0 = one_in (translation64 way.mtus p.head payload way.ends way.id p.content) y a.1.0 b.1 a.1.1 in
+    let same : y ≡ a.1.0 = one_in (translation64 way p.head payload p.content) y a.1.0 b.1 a.1.1 in
     absurd (omega (arith, ap length same, b.2, a.1.2))
 one_passage64 way p payload TooBig TooBig a b = refl
 one_passage64 way p payload (Cut x) other a b = absurd a
 one_passage64 way p payload Spent (Cut y) a b = absurd b
 one_passage64 way p payload (Sent x) (Cut y) a b = absurd b
 one_passage64 way p payload TooBig (Cut y) a b = absurd b
-
-none_some : {A : Type 0} (x : A) → ◌≡◌ {A = Option A} (Some x) None → ⊥
-none_some x e = cc
-
-pub one_answer4 : (h : Head4) (packet : List ℕ) (src : Addr4) (id : ℕ) (what : Option Notice) (one other : Option (List ℕ))
-    → IsAnswer4 h packet src id what one → IsAnswer4 h packet src id what other → one ≡ other
-one_answer4 h packet src id None one other a b = a ∙ sym b
-one_answer4 h packet src id (Some what) None None a b = refl
-one_answer4 h packet src id (Some what) None (Some y) a b = absurd (none_some y (b.0.1 (a.0.0 refl)))
-one_answer4 h packet src id (Some what) (Some x) None a b = absurd (none_some x (a.0.1 (b.0.0 refl)))
-one_answer4 h packet src id (Some what) (Some x) (Some y) a b = ap (λ (o : List ℕ). Some o) (a.1 ∙ sym b.1)
-
-pub one_answer6 : (h : Head6) (packet : List ℕ) (src : Addr6) (what : Option Notice) (one other : Option (List ℕ))
-    → IsAnswer6 h packet src what one → IsAnswer6 h packet src what other → one ≡ other
-one_answer6 h packet src None one other a b = a ∙ sym b
-one_answer6 h packet src (Some what) None None a b = refl
-one_answer6 h packet src (Some what) None (Some y) a b = absurd (none_some y (b.0.1 (a.0.0 refl)))
-one_answer6 h packet src (Some what) (Some x) None a b = absurd (none_some x (a.0.1 (b.0.0 refl)))
-one_answer6 h packet src (Some what) (Some x) (Some y) a b = ap (λ (o : List ℕ). Some o) (a.1 ∙ sym b.1)
-
--- a cause without a notice has none over either version
-pub unnoticed4 : (mtus : Mtus) (cause : Cause) → has_notice cause ≡ false → notice4 mtus cause ≡ None
-unnoticed4 mtus SourceRoute e = absurd (let f : true ≡ false = e in cc)
-unnoticed4 mtus TtlSpent e = absurd (let f : true ≡ false = e in cc)
-unnoticed4 mtus IsTooBig e = absurd (let f : true ≡ false = e in cc)
-unnoticed4 mtus _ e = refl
-
-pub unnoticed6 : (mtus : Mtus) (left : Option ℕ) (cause : Cause) → has_notice cause ≡ false → notice6 mtus left cause ≡ None
-unnoticed6 mtus left SourceRoute e = absurd (let f : true ≡ false = e in cc)
-unnoticed6 mtus left TtlSpent e = absurd (let f : true ≡ false = e in cc)
-unnoticed6 mtus left IsTooBig e = absurd (let f : true ≡ false = e in cc)
-unnoticed6 mtus left _ e = refl
-
--- what is carried comes to one hop, where a drop for each cause does
-pub one_carried : (Dropped : Cause → Hop → Type 0) (exit : Exit) (passage : Passage) → ((cause : Cause) → IsOneAtMost (Dropped cause))
-    → IsOneAtMost (IsCarried Dropped exit passage)
-one_carried Dropped exit (Sent octets) drop = λ one other a b. a ∙ sym b
-one_carried Dropped exit (Cut pieces) drop = λ one other a b. a ∙ sym b
-one_carried Dropped exit Spent drop = λ one other a b. drop TtlSpent one other a b
-one_carried Dropped exit TooBig drop = λ one other a b. drop IsTooBig one other a b
-
-one_freed : (IsLater : List ℕ → Type 0) (Becomes : List ℕ → Hop → Type 0) (octets : List ℕ) → IsOneAtMost (Becomes octets) → IsOneAtMost (IsFreed IsLater Becomes octets)
-one_freed IsLater Becomes octets becomes one other (inl a) (inl b) = becomes one other a.1 b.1
-one_freed IsLater Becomes octets becomes one other (inl a) (inr b) = absurd (b.0 a.0)
-one_freed IsLater Becomes octets becomes one other (inr a) (inl b) = absurd (a.0 b.0)
-one_freed IsLater Becomes octets becomes one other (inr a) (inr b) = a.1 ∙ sym b.1
-
--- and what is freed does, where each fragment does
-pub all_freed : (IsLater : List ℕ → Type 0) (Becomes : List ℕ → Hop → Type 0) (parcels : List Parcel) → ((octets : List ℕ) → IsOneAtMost (Becomes octets))
-    → IsOneAtMost (AreFreed IsLater Becomes parcels)
-all_freed IsLater Becomes [] becomes one other a b = a ∙ sym b
-all_freed IsLater Becomes (parcel ∷ parcels) becomes one other (x, xs, first, others, is) (y, ys, second, more, also) =
-    let same : x ≡ y = one_freed IsLater Becomes parcel.bytes (becomes parcel.bytes) x y first second in
-    let rest : xs ≡ ys = all_freed IsLater Becomes parcels becomes xs ys others more in
-    is ∙ (λ i. then (same i) (rest i)) ∙ sym also

@@ -16,7 +16,7 @@ use Rattle.l4_headers.specs.Transport.{header_octets, with_l4}
 use Rattle.l4_headers.proofs.Laws.{length-with_l4}
 use Rattle.l4_headers.proofs.RightSums.{header_stands}
 use Rattle.xlat64.specs.Head.{translated}
-use Rattle.icmp_xlat.specs.declared.ends.Ends.{Ends}
+use Rattle.l4_headers.specs.declared.ends.Ends.{Ends}
 use Rattle.packets.specs.declared.packet6.Content6.{Content6}
 use Rattle.packets.specs.declared.packet6.Content6.TheVariants.{Segment, Later, Query, Error}
 use Rattle.packets.specs.Packet6.{IsContent6}
@@ -35,7 +35,7 @@ longer proto payload ports sum stands long = rw (length-with_l4 proto payload po
 
 pub no_room : (at_relay : Bool) (mtus : Mtus) (h : Head6) (payload : List ℕ) (ends : Ends Addr4) (id : ℕ) (content : Content6)
     → IsContent6 at_relay h payload content → h.length ≡ length payload → (HasRoom h content → ⊥)
-    → (octets : List ℕ) × (translation64 mtus h payload ends id content ≡ Some octets) × (mtus.mtu4 < length octets)
+    → (octets : List ℕ) × (translation64 (record { mtus = mtus; ends = ends; id = id }) h payload content ≡ Some octets) × (mtus.mtu4 < length octets)
 no_room at_relay mtus h payload ends id (Segment proto l4) is exact none =
     let stands = header_stands proto payload (not (more_fragments h.frag)) is.transport in
     let long : 65515 < length payload = omega (arith, exact, none) in

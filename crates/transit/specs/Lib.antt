@@ -1,4 +1,3 @@
-pub mod Hop
+pub mod Accepted
 pub mod Passage46
 pub mod Passage64
-pub mod Reply

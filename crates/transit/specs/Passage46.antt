@@ -8,10 +8,10 @@ use Rattle.ip4_packet.specs.declared.head.Head4.{Head4}
 use Rattle.ip6_packet.specs.declared.head.Head6.{Head6}
 use Rattle.icmp_messages.specs.declared.icmp4.Icmp4.{Icmp4}
 use Rattle.icmp_messages.specs.declared.inner4.Inner4.{Inner4}
-use Rattle.xlat46.specs.Head.{is_fragment}
+use Rattle.ip4_packet.specs.Fragment.{is_fragment}
 use Rattle.xlat46.specs.Whole.{packet46}
-use Rattle.icmp_xlat.specs.declared.ends.Ends.{Ends}
-use Rattle.icmp_xlat.specs.declared.table.Row.{Row}
+use Rattle.l4_headers.specs.declared.ends.Ends.{Ends}
+use Rattle.icmp_messages.specs.declared.table.Row.{Row}
 use Rattle.icmp_xlat.specs.Icmp46.{rest46, query46, error46, with_message46}
 use Rattle.packet_faults.specs.Cut.{cut_for, AreCut, IsCuttable}
 use Rattle.packets.specs.declared.packet4.Content4.{Content4}

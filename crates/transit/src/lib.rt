@@ -1,20 +1,16 @@
-//! A packet on its way through a node: translated, and sent, cut, or dropped with an ICMP error that says why.
+//! A packet between two versions of IP: translated, and sent, cut, or too big or old to be sent.
 #![tactic(auto)]
 
-mod equal;
-mod exit;
 mod laws;
 mod passage;
-mod reply;
 mod to_ipv4;
 mod to_ipv6;
 
-pub use equal::equal_values_are_the_same;
-pub use exit::{Exit, drop_packet, nothing, send, send_pieces};
 pub use laws::{
-    a_dropped_packet_has_one_answer, a_packet_has_one_passage, a_packet_is_cut_in_one_way,
+    a_packet_has_one_passage, a_packet_is_cut_in_one_way,
+    translators_take_the_messages_that_a_node_takes,
+    translators_take_the_segments_that_a_node_takes,
 };
 pub use passage::Passage;
-pub use reply::{reply4, reply6};
 pub use to_ipv4::passage64;
 pub use to_ipv6::passage46;

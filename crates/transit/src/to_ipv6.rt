@@ -5,20 +5,23 @@ ghost use Rattle.icmp_messages.specs.declared.inner4.Inner4.{Inner4 as Inner};
 ghost use Rattle.icmp_messages.specs.Message.{IsIcmp4};
 ghost use Rattle.icmp_messages.specs.Inner.{IsInner4};
 ghost use Rattle.ip6_packet.specs.Written.{IsInRange};
-ghost use Rattle.xlat46.specs.Head.{is_fragment, translated};
-ghost use Rattle.icmp_xlat.specs.declared.table.Row.{Row as AnyRow};
-ghost use Rattle.icmp_xlat.specs.declared.table.Rest.TheVariants.{Query as QueryRest};
-ghost use Rattle.icmp_xlat.specs.Table.{table46, row_of};
-ghost use Rattle.icmp_xlat.specs.Icmp46.{embedded46, query46, with_message46, HasNoRow46, EmbedsOne46};
+ghost use Rattle.xlat46.specs.Head.{translated};
+ghost use Rattle.ip4_packet.specs.Fragment.{is_fragment};
+ghost use Rattle.icmp_messages.specs.declared.table.Row.{Row as AnyRow};
+ghost use Rattle.icmp_messages.specs.declared.table.Rest.TheVariants.{Query as QueryRest};
+ghost use Rattle.icmp_messages.specs.Table.{table46, row_of};
+ghost use Rattle.icmp_xlat.specs.Icmp46.{query46, with_message46};
+ghost use Rattle.icmp_messages.specs.Extension.{embedded46};
+ghost use Rattle.icmp_messages.specs.Rows.{HasNoRow46, EmbedsOne46};
 ghost use Rattle.packets.specs.Packet4.{IsPacket4};
 ghost use Rattle.transit.specs.Passage46.{is_message4, is_rigid4, error_packet46, translation46, AreCutOf, IsPassage46};
 
 use crate::passage::Passage;
-use icmp_messages::Icmp4;
-use icmp_xlat::{Ends, answer46};
+use icmp_xlat::{Ends, Passing, error46, query46, with_message46};
 use ip4_packet::Head4;
 use ip6_packet::Head6;
-use octets::{Addr6, Bytes, Fault, Mtus, NoMemory, Parcels};
+use l4_headers::Segment;
+use octets::{Addr6, Bytes, NoMemory, Parcels};
 use packet_faults::cut6;
 use packets::{Content4, Packet4};
 use std::alloc::Global;
@@ -28,39 +31,11 @@ use xlat46::{head46, packet46};
 fn is_rigid(packet: &Packet4) -> bool
     ensures { result ≡ is_rigid4 packet.now }
 {
-    let fragment = packet.head.mf || packet.head.offset != 0;
     let message = matches!(
         packet.content,
         Content4::Query { .. } | Content4::Error { .. }
     );
-    (!fragment && packet.head.df) || message
-}
-
-/// The ICMP message in this payload, translated.
-fn message(
-    alloc: Global,
-    mtus: Mtus,
-    head: &Head4,
-    payload: &[u8],
-    message: &Icmp4,
-    ends: &Ends<Addr6>,
-) -> Result<Bytes, NoMemory>
-    requires is { IsIcmp4 message.now payload.now }
-    requires alive { 1 ≤ head.now.ttl }
-    requires lengths { head.now.head_len ≤ head.now.total }
-    requires protocol { head.now.proto ≡ 1 }
-    requires whole { is_fragment head.now ≡ false }
-    requires fits { length payload.now ≤ 65515 }
-    requires embeds { EmbedsOne46 message.now (row_of table46 message.now.kind message.now.code) }
-    requires row { HasNoRow46 message.now → ⊥ }
-    ensures query { (row : AnyRow) → row_of table46 message.now.kind message.now.code ≡ Some row → row.rest ≡ QueryRest → IfOk result (λ written. written ≡ with_message46 head.now (query46 message.now row ends.now) ends.now) }
-    ensures error { (row : AnyRow) (inner : Inner) → row_of table46 message.now.kind message.now.code ≡ Some row → row.rest ≢ QueryRest → IsInner4 inner (embedded46 message.now) → IfOk result (λ written. error_packet46 mtus head.now message.now row inner ends.now ≡ Some written) }
-{
-    match answer46(alloc, mtus, head, message, ends) {
-        Ok(written) => Ok(written),
-        Err(Fault::NoMemory) => Err(NoMemory),
-        Err(Fault::Drop(_)) => unreachable!(),
-    }
+    (!packet.head.is_fragment() && packet.head.df) || message
 }
 
 /// The packet's payload.
@@ -76,30 +51,46 @@ fn payload_in<'a>(packet: &Packet4, octets: &'a [u8]) -> &'a [u8]
 /// The packet over IPv6.
 fn translated(
     alloc: Global,
-    mtus: Mtus,
+    passing: &Passing<Addr6>,
     packet: &Packet4,
     octets: &[u8],
-    ends: &Ends<Addr6>,
 ) -> Result<Bytes, NoMemory>
     requires is { IsPacket4 packet.now octets.now }
     requires alive { 1 ≤ packet.now.head.ttl }
-    ensures { IfOk result (λ written. translation46 mtus packet.now.head (payload_of4 packet.now.head octets.now) ends.now packet.now.content ≡ Some written) }
+    ensures { IfOk result (λ written. translation46 passing.now.mtus packet.now.head (payload_of4 packet.now.head octets.now) passing.now.ends packet.now.content ≡ Some written) }
 {
     let head = &packet.head;
+    let ends = &passing.ends;
     let payload = payload_in(packet, octets);
-    let Ends {
-        src,
-        dst,
-        ports,
-        ..
-    } = *ends;
     match &packet.content {
-        Content4::Segment { proto, .. } => {
-            packet46(alloc, head, *proto, payload, src, dst, Some(ports))
+        Content4::Segment { proto, l4 } => {
+            let segment = Segment {
+                proto: *proto,
+                header: Some(*l4),
+                payload,
+            };
+            packet46(alloc, head, &segment, ends)
         }
-        Content4::Later { proto } => packet46(alloc, head, *proto, payload, src, dst, None),
-        Content4::Query { message: query, .. } => message(alloc, mtus, head, payload, query, ends),
-        Content4::Error { message: error, .. } => message(alloc, mtus, head, payload, error, ends),
+        Content4::Later { proto } => {
+            let segment = Segment {
+                proto: *proto,
+                header: None,
+                payload,
+            };
+            packet46(alloc, head, &segment, ends)
+        }
+        Content4::Query { message, row } => {
+            let query = query46(alloc, message, *row, ends)?;
+            with_message46(alloc, head, &query, ends)
+        }
+        Content4::Error {
+            message,
+            row,
+            inner,
+        } => {
+            let error = error46(alloc, passing, message, *row, inner)?;
+            with_message46(alloc, head, &error, ends)
+        }
     }
 }
 
@@ -131,50 +122,48 @@ fn header(packet: &Packet4, ends: &Ends<Addr6>) -> Head6
 /// The pieces of a translated packet that is too long and may be cut.
 fn cut(
     alloc: Global,
-    mtus: Mtus,
+    passing: &Passing<Addr6>,
     packet: &Packet4,
     octets: &[u8],
-    ends: &Ends<Addr6>,
     written: &[u8],
 ) -> Result<Parcels, NoMemory>
     requires is { IsPacket4 packet.now octets.now }
     requires alive { 1 ≤ packet.now.head.ttl }
-    requires written { translation46 mtus packet.now.head (payload_of4 packet.now.head octets.now) ends.now packet.now.content ≡ Some written.now }
+    requires written { translation46 passing.now.mtus packet.now.head (payload_of4 packet.now.head octets.now) passing.now.ends packet.now.content ≡ Some written.now }
     requires no_message { is_message4 packet.now.content ≡ false }
-    requires longer { mtus.mtu6 < length written.now }
-    ensures { IfOk result (AreCutOf written.now mtus.mtu6 packet.now.head.id) }
+    requires longer { passing.now.mtus.mtu6 < length written.now }
+    ensures { IfOk result (AreCutOf written.now passing.now.mtus.mtu6 packet.now.head.id) }
 {
     // What is cut has this header, and a payload of this length.
     let _payload = payload_in(packet, octets);
-    let _header = header(packet, ends);
-    cut6(alloc, written, mtus.mtu6, u32::from(packet.head.id))
+    let _header = header(packet, &passing.ends);
+    let id = u32::from(packet.head.id);
+    cut6(alloc, written, passing.mtus.mtu6, id)
 }
 
-/// What becomes of the packet in these octets at a node that translates it to IPv6, between these ends. Of a flow the
-/// ports are the packet's new ones, of a query the source port is its identifier, and of an error they are those of
-/// the packet that it embeds. A translation that is longer than `mtu6` octets is cut, and its pieces have the
-/// identification of the packet; a whole packet with "don't fragment", and a query, are `TooBig` instead. A packet whose
-/// TTL is 0 or 1 is `Spent`.
+/// What becomes of the packet in these octets at a node that translates it to IPv6 by this. Of a flow the ports are the
+/// packet's new ones, of a query the source port is its identifier, and of an error they are those of the packet that it
+/// embeds. A translation that is longer than `mtu6` octets is cut, and its pieces have the identification of the packet; a
+/// whole packet with "don't fragment", and a query, are `TooBig` instead. A packet whose TTL is 0 or 1 is `Spent`.
 pub fn passage46(
     alloc: Global,
-    mtus: Mtus,
+    passing: &Passing<Addr6>,
     packet: &Packet4,
     octets: &[u8],
-    ends: &Ends<Addr6>,
 ) -> Result<Passage, NoMemory>
     requires { IsPacket4 packet.now octets.now }
-    ensures { IfOk result (λ passage. IsPassage46 mtus packet.now (payload_of4 packet.now.head octets.now) ends.now passage) }
+    ensures { IfOk result (λ passage. IsPassage46 passing.now.mtus packet.now (payload_of4 packet.now.head octets.now) passing.now.ends passage) }
 {
     if packet.head.ttl <= 1 {
         return Ok(Passage::Spent);
     }
-    let written = translated(alloc, mtus, packet, octets, ends)?;
-    if written.as_slice().len() <= usize::from(mtus.mtu6) {
+    let written = translated(alloc, passing, packet, octets)?;
+    if written.as_slice().len() <= usize::from(passing.mtus.mtu6) {
         return Ok(Passage::Sent(written));
     }
     if is_rigid(packet) {
         return Ok(Passage::TooBig);
     }
-    let pieces = cut(alloc, mtus, packet, octets, ends, written.as_slice())?;
+    let pieces = cut(alloc, passing, packet, octets, written.as_slice())?;
     Ok(Passage::Cut(pieces))
 }

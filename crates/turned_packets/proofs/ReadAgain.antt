@@ -17,7 +17,7 @@ use Rattle.l4_headers.specs.Transport.{l4_of}
 use Rattle.icmp_messages.specs.declared.icmp4.Icmp4.{Icmp4}
 use Rattle.icmp_messages.specs.declared.inner4.Inner4.{Inner4}
 use Rattle.icmp_messages.specs.Inner.{IsCarried4, IsInner4}
-use Rattle.icmp_xlat.specs.Icmp46.{embedded46}
+use Rattle.icmp_messages.specs.Extension.{embedded46}
 use Rattle.turned_packets.specs.Ends.{End, Source, Destination, NewEnd, address_at, with_address, with_port}
 use Rattle.turned_packets.specs.Embedded.{with_quad, address_place, port_place, sum_place, embedded_sum, embedded_header, turned_embedded}
 use Rattle.turned_packets.specs.Sums.{turned_ports, turned_inner_payload, turned_inner, with_embedded}

@@ -4,7 +4,7 @@ use Rattle.std.proofs.lemmas.List.{length-take, length-drop}
 use Rattle.icmp_messages.specs.declared.icmp4.Icmp4.{Icmp4}
 use Rattle.icmp_messages.specs.declared.inner4.Inner4.{Inner4}
 use Rattle.icmp_messages.specs.Inner.{IsInner4}
-use Rattle.icmp_xlat.specs.Icmp46.{embedded46}
+use Rattle.icmp_messages.specs.Extension.{embedded46}
 
 -- no more octets than the body has
 cut : (whole : Bool) (n : ℕ) (body : List ℕ) → length (cond whole body (take n body)) ≤ length body

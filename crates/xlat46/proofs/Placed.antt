@@ -1,5 +1,5 @@
 -- Translated headers are in front of their payload as they are written.
-use Rattle.std.proofs.Common.{◌≡◌, ℕ, ◌+◌, ◌-◌, ◌<◌, ◌≤◌, Bool, true, false, cond, List, [], ◌++◌, length, Option, Some, None, refl, ap, arith}
+use Rattle.std.proofs.Common.{◌≡◌, ℕ, ◌-◌, ◌<◌, ◌≤◌, Bool, true, false, cond, List, [], ◌++◌, Some, None, refl, ap, arith}
 use Rattle.std.specs.Prelude.{is_some}
 use Rattle.std.proofs.lemmas.List.{append-nil}
 use Rattle.octets.specs.declared.address.Addr6.{Addr6}
@@ -7,7 +7,8 @@ use Rattle.ip4_packet.specs.declared.head.Head4.{Head4}
 use Rattle.ip6_packet.specs.declared.head.Head6.{Head6}
 use Rattle.ip6_packet.specs.declared.head.Frag6.{Frag6}
 use Rattle.ip6_packet.specs.Written.{fixed_header, fragment_part, written6, IsPlaced}
-use Rattle.xlat46.specs.Head.{is_fragment, translated}
+use Rattle.xlat46.specs.Head.{translated}
+use Rattle.ip4_packet.specs.Fragment.{is_fragment}
 
 -- what is written in front of nothing, and then the payload
 pub written-then : (h : Head6) (payload : List ℕ) → written6 h [] ++ payload ≡ written6 h payload

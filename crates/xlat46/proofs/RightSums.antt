@@ -1,6 +1,5 @@
 -- Right sums over IPv4 are right over IPv6.
-use Rattle.std.proofs.Common.{◌≡◌, ◌≢◌, ℕ, zero, suc, ◌+◌, ◌<◌, ◌≤◌, Bool, true, false, cond, not, List, length, Option, Some, None, ap, ◌∙◌, refl, sym, arith}
-use Rattle.octets.specs.Field.{word}
+use Rattle.std.proofs.Common.{◌≡◌, ℕ, zero, suc, ◌+◌, ◌<◌, ◌≤◌, Bool, true, false, cond, not, List, length, Option, Some, None, ap, ◌∙◌, arith}
 use Rattle.octets.specs.Protocol.{proto4}
 use Rattle.octets.specs.declared.address.Addr6.{Addr6}
 use Rattle.octets.specs.declared.proto.Proto.{Proto}
@@ -11,7 +10,7 @@ use Rattle.l4_headers.specs.Transport.{header_octets, l4_of, with_l4}
 use Rattle.l4_headers.specs.PseudoHeader.{pseudo_header4, pseudo_header6, IsRightOver}
 use Rattle.l4_headers.specs.Readdressed.{computed_udp_sum}
 use Rattle.l4_headers.proofs.RightSums.{header_stands, words-pseudo4, words-pseudo6, right_readdressed, right_computed}
-use Rattle.xlat46.specs.Head.{is_fragment}
+use Rattle.ip4_packet.specs.Fragment.{is_fragment}
 use Rattle.xlat46.specs.Whole.{Parts4, IsCarried4, lacks_sum, has_no_sum, addresses_before, addresses_after, payload46, ArePorts}
 
 -- no protocol that is carried has the number 0

@@ -1,15 +1,12 @@
 -- The header of an IPv4 packet translated to IPv6 (RFC 7915, section 4.1), one equation a field. Options
 -- are dropped. The packet is written with flow label 0, and with a payload length that counts a Fragment
 -- Header's 8 octets.
-use Rattle.std.specs.Prelude.{ℕ, ◌-◌, Bool, not, ◌||◌, ◌==◌, if◌then◌else◌, Option, Some, None, is_some}
+use Rattle.std.specs.Prelude.{ℕ, ◌-◌, ◌==◌, if◌then◌else◌, Option, Some, None, is_some}
 use Rattle.octets.specs.declared.address.Addr6.{Addr6}
 use Rattle.ip4_packet.specs.declared.head.Head4.{Head4}
+use Rattle.ip4_packet.specs.Fragment.{is_fragment}
 use Rattle.ip6_packet.specs.declared.head.Head6.{Head6}
 use Rattle.ip6_packet.specs.declared.head.Frag6.{Frag6}
-
--- the packet is a fragment
-abbrev pub is_fragment : Head4 → Bool
-is_fragment old = old.mf || not (old.offset == 0)
 
 -- exactly a fragment has a Fragment Header: the identification in the low 16 of 32 bits, offset and more
 -- fragments as they were

@@ -1,3 +1,4 @@
 pub mod Fits
 pub mod Head
+pub mod Read
 pub mod Whole

@@ -15,7 +15,8 @@ use Rattle.l4_headers.specs.declared.ports.Ports.{Ports}
 use Rattle.l4_headers.specs.Transport.{IsBadTransport, l4_of, with_l4}
 use Rattle.l4_headers.specs.PseudoHeader.{pseudo_header6}
 use Rattle.l4_headers.specs.Readdressed.{readdressed_sum, computed_udp_sum}
-use Rattle.xlat46.specs.Head.{is_fragment, translated}
+use Rattle.xlat46.specs.Head.{translated}
+use Rattle.ip4_packet.specs.Fragment.{is_fragment}
 
 -- a packet as it was read: its header, its transport protocol, and its payload
 pub record Parts4 : Type 0 where

@@ -1,5 +1,5 @@
 ghost use Rattle.std.specs.Prelude.{◌≡◌, ◌≤◌};
-ghost use Rattle.xlat46.specs.Head.{is_fragment, translated};
+ghost use Rattle.xlat46.specs.Head.{translated};
 
 use ip4_packet::Head4;
 use ip6_packet::{Frag6, Head6};
@@ -11,13 +11,6 @@ const START: u32 = 40;
 
 const FRAGMENT_START: u32 = 48;
 
-/// Whether the packet is a fragment.
-pub fn is_fragment(head: &Head4) -> bool
-    ensures { result ≡ is_fragment head.now }
-{
-    head.mf || head.offset != 0
-}
-
 /// The IPv6 header of a translated IPv4 packet, with these addresses (RFC 7915, section 4.1). Options are
 /// dropped, the flow label is 0, the hop limit is one below the TTL, and a Fragment Header stands exactly
 /// for a fragment.
@@ -26,7 +19,7 @@ pub fn head46(head: &Head4, src: Addr6, dst: Addr6) -> Head6
     requires lengths { head.now.head_len ≤ head.now.total }
     ensures { result ≡ translated head.now src dst }
 {
-    let frag = if is_fragment(head) {
+    let frag = if head.is_fragment() {
         Some(Frag6 {
             offset: head.offset,
             more: head.mf,

@@ -1,5 +1,5 @@
 -- What was read of a packet that is accepted.
-use Rattle.std.proofs.Common.{◌≡◌, ◌≢◌, ℕ, ◌+◌, ◌*◌, ◌-◌, ◌<◌, ◌≤◌, List, length, Option, Some, None, inl, inr, arith, sym, ap, ◌∙◌, refl}
+use Rattle.std.proofs.Common.{◌≡◌, ℕ, ◌+◌, ◌*◌, ◌-◌, ◌<◌, List, Option, Some, None, inl, inr, arith, sym, ap, ◌∙◌, refl}
 use Rattle.std.proofs.lemmas.Bool.{cases_lt}
 use Rattle.octets.specs.Protocol.{proto6}
 use Rattle.octets.specs.declared.cause.Cause.TheVariants.{BadHeader}

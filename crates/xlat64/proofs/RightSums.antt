@@ -1,5 +1,5 @@
 -- Right sums over IPv6 are right over IPv4.
-use Rattle.std.proofs.Common.{◌≡◌, ◌≢◌, ℕ, zero, suc, ◌+◌, ◌<◌, ◌≤◌, Bool, true, false, not, List, length, Option, Some, None, ap, ◌∙◌, refl, sym, arith}
+use Rattle.std.proofs.Common.{◌≡◌, ℕ, zero, suc, ◌+◌, ◌<◌, not, Option, Some, None, ap, ◌∙◌, arith}
 use Rattle.octets.specs.Protocol.{proto6}
 use Rattle.octets.specs.declared.address.Addr4.{Addr4}
 use Rattle.octets.specs.declared.proto.Proto.{Proto}

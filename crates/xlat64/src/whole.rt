@@ -1,68 +1,69 @@
 ghost use Rattle.std.specs.Prelude.{◌≡◌, ◌<◌, ◌≤◌, not, IfOk, length};
-ghost use Rattle.l4_headers.specs.Transport.{IsBadTransport};
+ghost use Rattle.l4_headers.specs.Segment.{new_ports};
+ghost use Rattle.l4_headers.specs.Transport.{IsBadTransport, l4_of, header_at};
 ghost use Rattle.ip6_packet.specs.Fragment.{more_fragments, fragment_offset};
-ghost use Rattle.xlat64.specs.Whole.{Parts6, IsCarried6, HasNoTcpUdpCause6, sum64, packet64, HasPorts, IsAccepted64};
+ghost use Rattle.xlat64.specs.Read.{parts_of};
+ghost use Rattle.xlat64.specs.Whole.{Parts6, IsCarried6, HasNoTcpUdpCause6, sum64, packet64, IsAccepted64};
 
 use crate::head::head64;
 use ip6_packet::Head6;
-use l4_headers::{Ports, accepted_l4, address_sum4, address_sum6, followed_by, readdressed_sum};
+use l4_headers::{
+    Ends, L4, Ports, Segment, accepted_l4, address_sum4, address_sum6, followed_by, readdressed_sum,
+};
 use octets::{Addr4, Bytes, NoMemory, Proto};
 use std::alloc::Global;
 
-/// Whether more fragments follow.
-fn more_fragments(head: &Head6) -> bool
-    ensures { result ≡ more_fragments head.now.frag }
+/// The sum of this transport header with these addresses and ports, changed by the words of both addresses and both ports
+/// (RFC 7915, section 5.5).
+fn sum64(head: &Head6, segment: &Segment<'_>, l4: &L4, ends: &Ends<Addr4>) -> u16
+    requires { l4.now ≡ l4_of segment.now.proto segment.now.payload.now }
+    ensures { result ≡ sum64 (parts_of head.now segment.now) ends.now.src ends.now.dst ends.now.ports }
 {
-    match head.frag {
-        Some(frag) => frag.more,
-        None => false,
-    }
-}
-
-/// The sum of the transport header with these addresses and ports, changed by the words of both addresses and
-/// both ports (RFC 7915, section 5.5).
-fn sum64(head: &Head6, proto: Proto, payload: &[u8], src: Addr4, dst: Addr4, ports: Ports) -> u16
-    requires { IsBadTransport proto payload.now (not (more_fragments head.now.frag)) → ⊥ }
-    ensures { result ≡ sum64 (record { head = head.now; proto = proto; payload = payload.now }) src dst ports }
-{
-    let l4 = accepted_l4(proto, payload, !more_fragments(head));
     let before = address_sum6(head.src) + address_sum6(head.dst);
-    let after = address_sum4(src) + address_sum4(dst);
-    readdressed_sum(proto, &l4, before, after, ports)
+    let after = address_sum4(ends.src) + address_sum4(ends.dst);
+    readdressed_sum(segment.proto, l4, before, after, ends.ports)
 }
 
-/// The TCP or UDP packet of IPv6 with these headers and payload, translated to IPv4 with these addresses and ports
-/// (RFC 7915, sections 5.1 and 5.5). A later fragment has no ports, and keeps its payload. `id` is the
-/// identification of a packet without a Fragment Header.
+/// The TCP or UDP packet of IPv6 with these headers that carries this, translated to IPv4 between these ends (RFC 7915, sections
+/// 5.1 and 5.5). A later fragment gets no ports, and keeps its payload. `id` is the identification of a packet without a
+/// Fragment Header.
 pub fn packet64(
     alloc: Global,
     head: &Head6,
-    proto: Proto,
-    payload: &[u8],
-    src: Addr4,
-    dst: Addr4,
-    ports: Option<Ports>,
+    segment: &Segment<'_>,
+    ends: &Ends<Addr4>,
     id: u16,
 ) -> Result<Bytes, NoMemory>
     requires alive { 1 ≤ head.now.hop }
-    requires length_is { head.now.length ≡ length payload.now }
-    requires fits { length payload.now ≤ 65515 }
+    requires length_is { head.now.length ≡ length segment.now.payload.now }
+    requires fits { length segment.now.payload.now ≤ 65515 }
     requires offset { fragment_offset head.now.frag < 8192 }
-    requires carried { IsCarried6 (record { head = head.now; proto = proto; payload = payload.now }) }
-    requires ports { HasPorts head.now ports }
-    ensures { IfOk result (λ octets. octets ≡ packet64 (record { head = head.now; proto = proto; payload = payload.now }) src dst ports id) }
+    requires carried { IsCarried6 (parts_of head.now segment.now) }
+    requires read { segment.now.header ≡ header_at (fragment_offset head.now.frag) segment.now.proto segment.now.payload.now }
+    ensures { IfOk result (λ octets. octets ≡ packet64 (parts_of head.now segment.now) ends.now.src ends.now.dst (new_ports segment.now ends.now.ports) id) }
 {
-    let mut front = head64(head, src, dst, id).write(alloc, &[])?;
-    match ports {
+    let mut front = head64(head, ends.src, ends.dst, id).write(alloc, &[])?;
+    match &segment.header {
         None => {
-            front.extend(payload)?;
+            front.extend(segment.payload)?;
             Ok(front)
         }
-        Some(ports) => {
-            let sum = sum64(head, proto, payload, src, dst, ports);
-            followed_by(front, proto, payload, ports, sum)
+        Some(l4) => {
+            let sum = sum64(head, segment, l4, ends);
+            followed_by(front, segment.proto, segment.payload, ends.ports, sum)
         }
     }
+}
+
+/// The transport header, which a later fragment lacks.
+fn header_in(head: &Head6, proto: Proto, payload: &[u8]) -> Option<L4>
+    requires { fragment_offset head.now.frag ≡ 0 → IsBadTransport proto payload.now (not (more_fragments head.now.frag)) → ⊥ }
+    ensures { result ≡ header_at (fragment_offset head.now.frag) proto payload.now }
+{
+    if head.fragment_offset() != 0 {
+        return None;
+    }
+    Some(accepted_l4(proto, payload, !head.more_fragments()))
 }
 
 /// The TCP or UDP packet of IPv6 in these octets, translated to IPv4 with these addresses and ports (RFC 7915,
@@ -83,20 +84,15 @@ pub fn whole64(
     requires { IsAccepted64 packet.now ports }
     ensures { (p : Parts6) → HasNoTcpUdpCause6 p packet.now → IfOk result (λ octets. octets ≡ packet64 p src dst ports id) }
 {
-    let Ok(head) = Head6::read(packet) else {
-        unreachable!();
-    };
+    let head = Head6::accepted(packet);
     let Some(proto) = Proto::of6(head.upper) else {
         unreachable!();
     };
-    packet64(
-        alloc,
-        &head,
+    let payload = head.payload(packet);
+    let segment = Segment {
         proto,
-        head.payload(packet),
-        src,
-        dst,
-        ports,
-        id,
-    )
+        header: header_in(&head, proto, payload),
+        payload,
+    };
+    packet64(alloc, &head, &segment, &Ends::between(src, dst, ports), id)
 }

@@ -4,7 +4,7 @@ use Rattle.ip6_packet.specs.Grammar.{payload_of6}
 use Rattle.icmp_messages.specs.declared.inner6.Inner6.{Inner6}
 use Rattle.icmp_messages.specs.Inner.{IsInner6, IsBadInner6}
 use Rattle.icmp_messages.proofs.InnerLemmas.{not_bad6}
-use Rattle.icmp_xlat.specs.declared.table.Rest.TheVariants.{Query}
+use Rattle.icmp_messages.specs.declared.table.Rest.TheVariants.{Query}
 use Rattle.icmp_xlat.proofs.to_icmp4.translated64.Goals as goal
 use Rattle.icmp_xlat.proofs.to_icmp4.translated64.Goals.{in-Query, in_default}
 
@@ -20,8 +20,8 @@ returns-in_err-inner-clause-no_other c =
       | in-Query w ↦ cc
       | in_default w ↦ w.in_default.not-Query q
     ] in
-    let bad : IsBadInner6 c.embedded64.result.now → ⊥ = λ b.
-    ⊎_elim query (λ e. is_not_bad e.0 c.embedded64.result.now (rw c.embedded64.ensures e.1) b) c.requires.embeds in
+    let bad : IsBadInner6 c.embedded.result.now → ⊥ = λ b.
+    ⊎_elim query (λ e. is_not_bad e.0 c.embedded.result.now (rw c.embedded.ensures e.1) b) c.requires.embeds in
     let memory : c.in_err-inner.field-0.0 ≡ NoMemory =
     ⊎_elim (λ h. absurd (bad (c.in_err-inner.ensures.refused.0 (ap Err h)))) (λ h. h) c.in_err-inner.ensures.no_other in
     search rules

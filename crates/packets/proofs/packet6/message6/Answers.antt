@@ -1,11 +1,12 @@
-use Rattle.std.proofs.Common.{◌≡◌, ⊎_elim, ap, subst, Err, sym, ◌∙◌, false}
+use Rattle.std.proofs.Common.{◌≡◌, ⊎_elim, ap, subst, Err, sym}
 use Rattle.octets.specs.Cause.{IsLeast}
 use Rattle.octets.specs.declared.cause.Cause.{Cause}
 use Rattle.octets.specs.declared.cause.Cause.TheVariants.{BadTransport, IcmpSum}
-use Rattle.ip6_packet.specs.Fragment.{more_fragments, fragment_offset}
+use Rattle.ip6_packet.specs.Fragment.{fragment_offset, IsFragment6}
 use Rattle.packets.specs.Behind6.{Behind6}
 use Rattle.packets.proofs.Faults.{same_fault, same_cause, no_cause}
-use Rattle.packets.proofs.Spared6.{whole6, short_least, wrong_least}
+use Rattle.packets.proofs.Spared6.{short_least, wrong_least}
+use Rattle.packets.proofs.Taken6.{no_fragment}
 use Rattle.packets.proofs.packet6.message6.Goals as goal
 
 pub returns-in_err-message-clause-refused : goal.returns-in_err-message-clause-refused
@@ -13,9 +14,8 @@ returns-in_err-message-clause-refused c = λ cause e.
     let head = c.args.head.now in
     let fault = c.in_err-message.field-0.0 in
     let is = same_fault c.from_residual.result fault cause c.from_residual.ensures.1 e in
-    let more : more_fragments head.frag ≡ false = sym c.more_fragments.ensures ∙ c.if-more_fragments.false in
-    let first : fragment_offset head.frag ≡ 0 = sym c.fragment_offset.ensures ∙ c.if-fragment_offset-ne0.false in
-    let whole = whole6 head more first in
+    let whole : IsFragment6 head → ⊥ = λ fragment. let said = c.is_fragment.ensures.1 fragment in cc in
+    let first : fragment_offset head.frag ≡ 0 = no_fragment head whole in
     let told = c.in_err-message.ensures in
     ⊎_elim
     (λ short. subst (λ (x : Cause). IsLeast (Behind6 c.args.at_relay head c.args.payload.now) x) (sym (same_cause fault BadTransport cause short is))

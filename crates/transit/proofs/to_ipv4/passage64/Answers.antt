@@ -9,4 +9,4 @@ returns-then-not-has_room c =
     let head = c.args.packet.now.head in
     let is = c.requires.1 in
     let none : HasRoom head c.args.packet.now.content → ⊥ = λ (room : HasRoom head c.args.packet.now.content). not_so c.has_room.result c.if-not-has_room.true (c.has_room.ensures.1 room) in
-    (omega (arith, c.if-packet-le1.false), no_room c.requires.0 c.args.mtus head (payload_of6 head c.args.octets.now) c.args.ends.now c.args.id c.args.packet.now.content is.content (length_is head c.args.octets.now is.is) none)
+    (omega (arith, c.if-packet-le1.false), no_room c.requires.0 c.args.passing.now.mtus head (payload_of6 head c.args.octets.now) c.args.passing.now.ends c.args.passing.now.id c.args.packet.now.content is.content (length_is head c.args.octets.now is.is) none)

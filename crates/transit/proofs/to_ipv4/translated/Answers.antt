@@ -1,33 +1,15 @@
-use Rattle.std.proofs.Common.{sym, ap, subst, Some}
-use Rattle.ip6_packet.specs.Grammar.{payload_of6}
-use Rattle.packets.specs.declared.packet6.Content6.{Content6}
-use Rattle.packets.specs.Packet6.{IsContent6}
-use Rattle.transit.proofs.Both.{follows}
+use Rattle.std.proofs.Common.{◌∙◌, ℕ, ap, sym, Some}
+use Rattle.icmp_messages.specs.declared.icmp4.Icmp4.{Icmp4}
+use Rattle.icmp_xlat.specs.Icmp64.{rest64, error64, with_message64}
+use Rattle.transit.proofs.Both.{follows, mapped}
 use Rattle.transit.proofs.to_ipv4.translated.Goals as goal
 
-pub returns-in-Query : goal.returns-in-Query
-returns-in-Query c =
+pub returns-in_ok-error-in-Error : goal.returns-in_ok-error-in-Error
+returns-in_ok-error-in-Error c =
     let head = c.args.packet.now.head in
-    let payload = payload_of6 head c.args.octets.now in
-    let is = subst (λ (x : Content6). IsContent6 c.requires.is.0 head payload x) c.in-Query.is c.requires.is.1.content in
-    follows _ _ c.message.result (λ w e. rw c.in-Query.is (ap Some (sym e))) (c.message.ensures.query c.in-Query.row is.0.found is.1)
-
-pub returns-in-Error : goal.returns-in-Error
-returns-in-Error c =
-    let head = c.args.packet.now.head in
-    let payload = payload_of6 head c.args.octets.now in
-    let is = subst (λ (x : Content6). IsContent6 c.requires.is.0 head payload x) c.in-Error.is c.requires.is.1.content in
-    follows _ _ c.message-in-Error.result (λ w e. rw c.in-Error.is e)
-    (c.message-in-Error.ensures.error c.in-Error.row c.in-Error.inner is.message.found is.error.no_query is.embedded)
-
-pub message-requires-in-Error-clause-whole : goal.message-requires-in-Error-clause-whole
-message-requires-in-Error-clause-whole c =
-    let head = c.args.packet.now.head in
-    let is = subst (λ (x : Content6). IsContent6 c.requires.is.0 head (payload_of6 head c.args.octets.now) x) c.in-Error.is c.requires.is.1.content in
-    is.message.whole
-
-pub message-requires-in-Error-clause-row : goal.message-requires-in-Error-clause-row
-message-requires-in-Error-clause-row c =
-    let head = c.args.packet.now.head in
-    let is = subst (λ (x : Content6). IsContent6 c.requires.is.0 head (payload_of6 head c.args.octets.now) x) c.in-Error.is c.requires.is.1.content in
-    is.error.translated
+    let passing = c.args.passing.now in
+    let row = c.in-Error.row in
+    let inner = c.in-Error.inner in
+    let found = mapped (λ (rest : ℕ). error64 row rest inner passing.ends) (λ (m : Icmp4). with_message64 head m passing.ends passing.id)
+    (rest64 passing.mtus c.in-Error.message.rest row.rest) c.in_ok-error-in-Error.error c.in_ok-error-in-Error.ensures in
+    follows _ _ c.with_message64-in-Error.result (λ w e. rw c.in-Error.is (found ∙ ap Some (sym e))) c.with_message64-in-Error.ensures

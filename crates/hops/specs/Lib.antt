@@ -1,0 +1,4 @@
+pub mod Gains
+pub mod Hop
+pub mod Reply
+pub mod Sides
