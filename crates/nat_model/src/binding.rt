@@ -3,7 +3,7 @@ ghost use Rattle.std.specs.Prelude.{◌≡◌, ◌<◌, ◌^◌};
 use crate::End4;
 use crate::timer::timer;
 use map_rules::EdgeId;
-use octets::{Addr4, Proto};
+use octets::{Addr4, List, Proto};
 
 /// A binding: packets of the protocol from this host and port leave from the outside port, and packets to the
 /// outside port arrive there (RFC 4787, section 2; RFC 6146, section 3.1).
@@ -23,6 +23,9 @@ pub struct Binding {
     /// It outlives a change of the edge's address or ports where its own port may still be claimed.
     pub kept: bool,
 }
+
+/// Bindings in the order in which they were made.
+pub type Bindings = List<Binding>;
 
 impl Binding {
     ghost use Rattle.rule_book.specs.Holder.{holder_in};

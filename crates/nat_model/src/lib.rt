@@ -5,7 +5,6 @@
 mod answer;
 mod ask;
 mod binding;
-mod bindings;
 mod claim;
 mod entry;
 mod equal;
@@ -22,8 +21,7 @@ mod timer;
 
 pub use answer::Answer;
 pub use ask::{Ask, End4, Far, Part};
-pub use binding::Binding;
-pub use bindings::Bindings;
+pub use binding::{Binding, Bindings};
 pub use entry::{Entry, Mark, Who};
 pub use equal::equal_values_are_the_same;
 pub use laws::{

@@ -11,6 +11,7 @@ mod field;
 mod fragment;
 pub mod icmp_type;
 mod laws;
+mod list;
 mod memory;
 mod mtus;
 mod name;
@@ -33,6 +34,7 @@ pub use laws::{
     a_text_spells_one_value, an_ipv4_text_is_the_written_one,
     an_ipv6_text_is_shortened_by_the_rules, written_texts_are_read,
 };
+pub use list::List;
 pub use memory::NoMemory;
 pub use mtus::Mtus;
 pub use name::Name;

@@ -81,7 +81,7 @@ fn records_of(alloc: Global, octets: &[u8], room: u32) -> Result<Records, Captur
     let form = Form::read(octets)?;
     let (_header, entries) = octets.split_at(HEADER_LEN);
     let records = records_in(alloc, form, entries, room)?;
-    Ok(Records::of(records))
+    Ok(Records::from_vec(records))
 }
 
 /// Reads a capture in the classic pcap format (draft-ietf-opsawg-pcap), with room for so many records:

@@ -1,8 +1,4 @@
-ghost use Rattle.std.specs.Prelude.{◌≡◌, List};
-ghost use Rattle.pcap_files.specs.declared.records.Record.{Record as RecordType};
-
-use octets::Bytes;
-use std::marker::Model;
+use octets::{Bytes, List};
 
 /// A packet of a capture, and when it was captured.
 #[derive(Debug, Drop)]
@@ -13,29 +9,5 @@ pub struct Record {
     pub bytes: Bytes,
 }
 
-/// The records of a capture in their order. A contract sees the list of them.
-#[derive(Debug, Drop)]
-pub struct Records {
-    records: Vec<Record>,
-}
-
-impl Model for Records {
-    ghost Value = { List RecordType };
-
-    ghost view = { λ r. r.records.items };
-}
-
-impl Records {
-    /// The records.
-    pub fn as_slice(&self) -> &[Record]
-        ensures { result.now ≡ self.now }
-    {
-        &self.records
-    }
-
-    pub(crate) fn of(records: Vec<Record>) -> Records
-        ensures { result ≡ records.items }
-    {
-        Records { records }
-    }
-}
+/// The records of a capture in their order.
+pub type Records = List<Record>;

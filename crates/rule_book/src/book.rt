@@ -2,10 +2,9 @@ ghost use Rattle.std.specs.Prelude.{◌≡◌, ◌<◌, ◌+◌, ◌-◌, ◌^�
 ghost use Rattle.rule_book.specs.Valid.{IsValid};
 ghost use Rattle.rule_book.specs.Refusal.{refusal_of};
 
-use crate::change::{misfit, rules_after};
+use crate::change::{Rules, misfit, rules_after};
 use crate::lines::text_of;
 use crate::refusal::{overlap, refusal};
-use crate::rules::Rules;
 use crate::scan::{covers4, edge_of, far4, forward, owner};
 use crate::{BookFault, Change, FarOf, RuleView};
 use map_rules::{Dmr, EdgeId, Rule};

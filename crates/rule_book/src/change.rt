@@ -4,10 +4,12 @@ ghost use Rattle.rule_book.specs.Change.{same4, same6, same_rule, place_of, miss
 
 use crate::BookFault;
 use crate::refusal::MOST_RULES;
-use crate::rules::Rules;
 use map_rules::Rule;
-use octets::{NoMemory, Prefix4, Prefix6};
+use octets::{List, NoMemory, Prefix4, Prefix6};
 use std::alloc::Global;
+
+/// Mapping rules in their order.
+pub(crate) type Rules = List<Rule>;
 
 /// One change of the rules.
 #[derive(Clone, Copy, Debug, PartialEq, Eq, Hash)]

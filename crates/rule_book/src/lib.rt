@@ -12,7 +12,6 @@ mod lines;
 mod overlap;
 mod owner;
 mod refusal;
-mod rules;
 mod scan;
 mod view;
 

@@ -39,7 +39,7 @@ pub fn subs_of(alloc: Global, words: &mut Words<'_>) -> Result<Subs, RowFault> {
         subs.push(sub_of(alloc, words)?)
             .map_err(|_| RowFault::NoMemory)?;
     }
-    Ok(Subs::of(subs))
+    Ok(Subs::from_vec(subs))
 }
 
 /// Says the options inside of a rule.

@@ -130,7 +130,7 @@ fn read_subs(alloc: Global, at: u32, parts: &Cut<'_>) -> Result<Subs, OptionFaul
     if parts.left.len() >= HEAD_LEN {
         return Err(long_sub(place, second, parts.left));
     }
-    Ok(Subs::of(subs))
+    Ok(Subs::from_vec(subs))
 }
 
 /// The first fault of an option inside of a rule, at a place, that passes the rule's end. Port parameters stand

@@ -1,8 +1,4 @@
-ghost use Rattle.std.specs.Prelude.{◌≡◌, List};
-ghost use Rattle.s46_options.specs.declared.subs.Sub.{Sub as SubType};
-
-use octets::Bytes;
-use std::marker::Model;
+use octets::{Bytes, List};
 
 /// An option inside of a rule.
 #[derive(Debug, Drop)]
@@ -20,30 +16,5 @@ pub enum Sub {
     Other(u16, Bytes),
 }
 
-/// The options inside of a rule, in their order. A contract sees the list of them.
-#[derive(Debug, Drop)]
-pub struct Subs {
-    subs: Vec<Sub>,
-}
-
-impl Model for Subs {
-    ghost Value = { List SubType };
-
-    ghost view = { λ s. s.subs.items };
-}
-
-impl Subs {
-    /// These options.
-    pub fn of(subs: Vec<Sub>) -> Subs
-        ensures { result ≡ subs.items }
-    {
-        Subs { subs }
-    }
-
-    /// The options.
-    pub fn as_slice(&self) -> &[Sub]
-        ensures { result.now ≡ self.now }
-    {
-        &self.subs
-    }
-}
+/// The options inside of a rule, in their order.
+pub type Subs = List<Sub>;
