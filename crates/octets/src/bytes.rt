@@ -26,6 +26,13 @@ impl Bytes {
         }
     }
 
+    /// These octets, which take no more memory.
+    pub fn from_vec(octets: Vec<u8>) -> Bytes
+        ensures { result ≡ octets.items }
+    {
+        Bytes { octets }
+    }
+
     /// Adds one octet at the end.
     pub fn push(&mut self, octet: u8) -> Result<(), NoMemory>
         ensures ok { OnOk result (self.new ≡ self.old ++ octet ∷ []) }
