@@ -7,7 +7,7 @@ ghost use Rattle.std.specs.List.{filter};
 ghost use Rattle.nat_model.specs.Sound.{AreSound, IsSound};
 ghost use Rattle.nat_model.specs.Waiting.{FreesAtMost};
 
-use crate::fragment::{arrives, frag_ask_of};
+use crate::fragment::{arrives, fragment_of};
 use crate::stay::{staying, unexpired};
 use crate::steps::{Standing, refused};
 use crate::{Answer, Ask, Binding};
@@ -79,7 +79,7 @@ impl Machine {
           place = self.now.steps;
         }) ask.now).answer) }
     {
-        match frag_ask_of(self.alloc, ask)? {
+        match fragment_of(ask) {
             Some(fragment) => self.notes.waiting(self.clock.max(now), &fragment),
             None => Ok(Parcels::new(self.alloc)),
         }
@@ -228,8 +228,9 @@ impl Known<'_> {
             edge,
             book: self.book,
             clock: self.clock,
+            alloc,
         };
-        let answer = standing.gathered(alloc, self.place, ask, &mut bindings, notes)?;
+        let answer = standing.gathered(self.place, ask, &mut bindings, notes)?;
         Ok(Moved { bindings, answer })
     }
 }
