@@ -2,7 +2,7 @@
 use Rattle.std.proofs.Common.{◌≡◌, ◌+◌, ◌-◌, ℕ, suc, List, [], ◌∷◌, None, refl, sym, ◌∙◌}
 use mathlib.Core.HLevel.{is_prop→PathP}
 use Rattle.std.proofs.lemmas.Bool.{false≢true, le-leb}
-use Rattle.map_rules.proofs.Same.{same_rule, same_dmr}
+use Rattle.map_rules.proofs.Same.{same_rule}
 use Rattle.map_rules.specs.Shape.{first_broken}
 use Rattle.map_rules.specs.declared.dmr.Dmr.{Dmr}
 use Rattle.map_rules.specs.declared.rule.Rule.{Rule}

@@ -14,7 +14,7 @@ use Rattle.setup_tables.specs.declared.tables.Tables.{Tables}
 use Rattle.mapt_setup.specs.declared.setup.Setup.{Setup}
 use Rattle.setup_tables.specs.declared.fault.SetupCause.TheVariants.{RuleShape, ForwardEdge}
 use Rattle.setup_tables.specs.declared.fault.SetupFault.{SetupFault}
-use Rattle.setup_tables.specs.Answer.{Gives, HasNone, exactly, the, each}
+use Rattle.setup_tables.specs.Answer.{Gives, HasNone, exactly, each}
 use Rattle.setup_tables.specs.Origin.{given_by}
 use Rattle.mapt_setup.specs.Shapes.{HasParts, BreaksShape, book_of}
 use Rattle.mapt_setup.specs.Crowd.{edge_fault}

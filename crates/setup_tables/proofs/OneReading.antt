@@ -1,5 +1,5 @@
 -- What the tables of a configuration say is read in one way.
-use Rattle.std.proofs.Common.{◌≡◌, ◌-◌, ℕ, List, codes, false, Option, Some, None, Err, sym, subst, ◌∙◌, Ok, Result, ap, inl, inr, length}
+use Rattle.std.proofs.Common.{◌≡◌, ℕ, List, codes, false, Option, Some, None, Err, sym, subst, ◌∙◌, Ok, Result, ap, inl, inr, length}
 use Rattle.std.proofs.lemmas.Bool.{false≢true}
 use Rattle.std.proofs.lemmas.Option.{same_Some}
 use Rattle.octets.specs.Text4.{IsText4}

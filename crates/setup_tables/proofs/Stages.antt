@@ -3,7 +3,7 @@ use Rattle.std.proofs.Common.{◌≡◌, Option, Some, None, Result, Ok, Err, sy
 use Rattle.std.proofs.lemmas.Option.{same_Some}
 use Rattle.setup_tables.specs.declared.fault.SetupFault.{SetupFault}
 use Rattle.setup_tables.specs.declared.fault.SetupFault.TheVariants.{Refused, NoMemory}
-use Rattle.setup_tables.specs.Answer.{◌>>=◌, Gives, barring, the}
+use Rattle.setup_tables.specs.Answer.{◌>>=◌, Gives, barring}
 
 -- a stage that is refused refuses the whole
 pub stops : {X A B Y : Type 0} (seen : X → A) (view : Y → B) (first : Result A SetupFault → Type 0) (next : A → Result B SetupFault → Type 0) (e : SetupFault)

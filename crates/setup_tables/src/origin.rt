@@ -23,7 +23,9 @@ const MOST_TEXT: usize = 1 << 26;
 /// The default mapping rule and the lines of the rules.
 #[derive(Debug, Drop)]
 pub struct Given {
+    /// The default mapping rule.
     pub dmr: Dmr,
+    /// The lines of the rules in their order.
     pub lines: RuleLines,
 }
 
