@@ -67,7 +67,7 @@ impl Tables {
         let Some(table) = &self.table else {
             return Err(RowFault::NotARow);
         };
-        let parcels = table.waiting(now, &ask)?.copy(alloc)?;
+        let parcels = table.waiting(now, &ask.fragment())?.copy(alloc)?;
         say_waiting(&parcels, said)
     }
 }

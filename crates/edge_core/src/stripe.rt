@@ -55,7 +55,7 @@ impl StripeState {
         ensures keeps { KeepsStripe self.new }
         ensures err { OnErr result (self.new ≡ self.old) }
     {
-        let freed = self.table.waiting(now, ask)?;
+        let freed = self.table.waiting(now, &ask.fragment())?;
         let asked = ask.copy(self.alloc)?;
         self.entries.reserve(1)?;
         let place = self.entries.len() as u64;

@@ -104,7 +104,8 @@ fn turn(
     hop: &mut Emission,
 ) -> Result<(), NoMemory>
     requires { IsPacket4 packet.now octets.now }
-    ensures { OnOk result (Gains (Turns node.now octets.now packet.now (turned_out source.0 source.1 packet.now octets.now)) hop.old hop.new) }
+    ensures { OnOk result (Gains (Turns node.now octets.now packet.now
+        (turned_out source.0 source.1 packet.now octets.now)) hop.old hop.new) }
 {
     if packet.head.ttl <= 1 {
         return in_hand(node, &packet.head, octets).refuse(Cause::TtlSpent, hop);

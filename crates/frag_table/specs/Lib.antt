@@ -5,3 +5,4 @@ pub mod Listed
 pub mod Place
 pub mod Bounds
 pub mod Kind
+pub mod Fragment

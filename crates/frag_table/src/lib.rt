@@ -5,6 +5,7 @@
 mod answer;
 mod ask;
 mod equal;
+mod fragment;
 mod key;
 mod laws;
 mod live;
@@ -16,6 +17,7 @@ mod table;
 pub use answer::FragAnswer;
 pub use ask::FragAsk;
 pub use equal::equal_values_are_the_same;
+pub use fragment::Fragment;
 pub use key::FragKey;
 pub use laws::{each_fragment_has_an_answer_of_its_kind, notes_keep_their_bounds};
 pub use note::Note;

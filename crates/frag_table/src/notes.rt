@@ -53,10 +53,7 @@ impl Notes {
         requires { at < length self.now }
         ensures { slice_get self.now at ≡ Some result.now }
     {
-        let Some(note) = self.slab.get(self.keys[at]) else {
-            unreachable!("each key has a note");
-        };
-        note
+        &self.slab[self.keys[at]]
     }
 
     /// Adds a note at the end.
@@ -86,9 +83,7 @@ impl Notes {
         ensures after { IfSome (slice_get self.old at)
             (λ note. self.new ≡ slice_set self.old at (record note { ports = Some ports; held = [] })) }
     {
-        let Some(note) = self.slab.get_mut(self.keys[at]) else {
-            unreachable!("each key has a note");
-        };
+        let note = &mut self.slab[self.keys[at]];
         note.ports = Some(ports);
         mem::replace(&mut note.held, Parcels::new(alloc))
     }
@@ -100,9 +95,7 @@ impl Notes {
             (λ note. self.new ≡ slice_set self.old at (record note { held = note.held ++ parcel ∷ [] }))) }
         ensures err { OnErr result (self.new ≡ self.old) }
     {
-        let Some(note) = self.slab.get_mut(self.keys[at]) else {
-            unreachable!("each key has a note");
-        };
+        let note = &mut self.slab[self.keys[at]];
         note.held.push(parcel)
     }
 }

@@ -1,12 +1,13 @@
 ghost use Rattle.std.specs.Prelude.{◌≡◌, ℕ, ◌<◌, ◌^◌, IfOk, OnErr};
 ghost use Rattle.frag_table.specs.Frag.{live_at, frag_now, freed_by};
 ghost use Rattle.l4_headers.specs.declared.ports.Ports.{Ports as PortsType};
+ghost use Rattle.frag_table.specs.Fragment.{frag_ask};
 ghost use Rattle.frag_table.specs.Place.{IsPlace};
 ghost use Rattle.frag_table.specs.declared.ask.FragAsk.TheVariants.{First, Later};
 
 use crate::live::{count, place};
 use crate::notes::Notes;
-use crate::{FragAnswer, FragAsk, FragKey, Note};
+use crate::{FragAnswer, FragKey, Fragment, Note};
 use l4_headers::Ports;
 use octets::{Bytes, NoMemory, Parcel, Parcels};
 use std::alloc::Global;
@@ -20,67 +21,71 @@ const MOST_HELD: usize = 16;
 /// How long a note stays, in microseconds.
 const NOTE_TIME: u64 = 60_000_000;
 
-/// Takes a fragment, at the place of its step. Notes whose deadline has come stay, and are not looked at.
+/// A fragment's coming: the time, under which place it waits where it has to, and where that takes memory.
+#[derive(Clone, Copy)]
+pub(crate) struct Arrival {
+    pub(crate) clock: u64,
+    pub(crate) place: u64,
+    pub(crate) alloc: Global,
+}
+
+/// Takes a fragment. Notes whose deadline has come stay, and are not looked at.
 pub(crate) fn take(
-    alloc: Global,
     notes: &mut Notes,
-    clock: u64,
-    step: u64,
-    ask: &FragAsk,
+    arrival: Arrival,
+    fragment: &Fragment<'_>,
 ) -> Result<FragAnswer, NoMemory>
-    requires { clock < 2 ^ 63 }
-    ensures step { IfOk result (λ answer. record { after = live_at clock notes.new; answer = answer }
-        ≡ frag_now (live_at clock notes.old) step ask.now) }
+    requires { arrival.clock < 2 ^ 63 }
+    ensures step { IfOk result (λ answer. record { after = live_at arrival.clock notes.new; answer = answer }
+        ≡ frag_now (live_at arrival.clock notes.old) arrival.place (frag_ask fragment.now)) }
     ensures err { OnErr result (notes.new ≡ notes.old) }
 {
-    match ask {
-        FragAsk::First(key, ports) => first(alloc, notes, clock, key, *ports),
-        FragAsk::Later(key, octets) => later(alloc, notes, clock, key, step, octets),
+    match fragment {
+        Fragment::First(key, ports) => first(notes, arrival, key, *ports),
+        Fragment::Later(key, octets) => later(notes, arrival, key, octets),
     }
 }
 
 /// Takes a first fragment.
 fn first(
-    alloc: Global,
     notes: &mut Notes,
-    clock: u64,
+    arrival: Arrival,
     key: &FragKey,
     ports: Ports,
 ) -> Result<FragAnswer, NoMemory>
-    requires { clock < 2 ^ 63 }
-    ensures step { IfOk result (λ answer. record { after = live_at clock notes.new; answer = answer }
-        ≡ frag_now (live_at clock notes.old) 0 (First key.now ports)) }
+    requires { arrival.clock < 2 ^ 63 }
+    ensures step { IfOk result (λ answer. record { after = live_at arrival.clock notes.new; answer = answer }
+        ≡ frag_now (live_at arrival.clock notes.old) 0 (First key.now ports)) }
     ensures err { OnErr result (notes.new ≡ notes.old) }
 {
-    if let Some(at) = place(notes, clock, key) {
-        return Ok(release(alloc, notes, clock, key, at, ports));
+    if let Some(at) = place(notes, arrival.clock, key) {
+        return Ok(release(notes, arrival, key, at, ports));
     }
-    if count(notes, clock) >= MOST_NOTES {
+    if count(notes, arrival.clock) >= MOST_NOTES {
         return Ok(FragAnswer::Full);
     }
     notes.push(Note {
         key: *key,
-        deadline: clock + NOTE_TIME,
+        deadline: arrival.clock + NOTE_TIME,
         ports: Some(ports),
-        held: Parcels::new(alloc),
+        held: Parcels::new(arrival.alloc),
     })?;
     Ok(FragAnswer::Noted)
 }
 
 /// Takes a first fragment whose key has its note at this place: sets the ports, and releases what waits.
 fn release(
-    alloc: Global,
     notes: &mut Notes,
-    clock: u64,
+    arrival: Arrival,
     key: &FragKey,
     at: usize,
     ports: Ports,
 ) -> FragAnswer
-    requires { IsPlace clock key.now notes.old at }
-    ensures { record { after = live_at clock notes.new; answer = result }
-        ≡ frag_now (live_at clock notes.old) 0 (First key.now ports) }
+    requires { IsPlace arrival.clock key.now notes.old at }
+    ensures { record { after = live_at arrival.clock notes.new; answer = result }
+        ≡ frag_now (live_at arrival.clock notes.old) 0 (First key.now ports) }
 {
-    let held = notes.set_ports(alloc, at, ports);
+    let held = notes.set_ports(arrival.alloc, at, ports);
     if held.as_slice().is_empty() {
         FragAnswer::Noted
     } else {
@@ -90,29 +95,27 @@ fn release(
 
 /// Takes a later fragment.
 fn later(
-    alloc: Global,
     notes: &mut Notes,
-    clock: u64,
+    arrival: Arrival,
     key: &FragKey,
-    step: u64,
     octets: &Bytes,
 ) -> Result<FragAnswer, NoMemory>
-    requires { clock < 2 ^ 63 }
-    ensures step { IfOk result (λ answer. record { after = live_at clock notes.new; answer = answer }
-        ≡ frag_now (live_at clock notes.old) step (Later key.now octets.now)) }
+    requires { arrival.clock < 2 ^ 63 }
+    ensures step { IfOk result (λ answer. record { after = live_at arrival.clock notes.new; answer = answer }
+        ≡ frag_now (live_at arrival.clock notes.old) arrival.place (Later key.now octets.now)) }
     ensures err { OnErr result (notes.new ≡ notes.old) }
 {
-    if let Some(at) = place(notes, clock, key) {
-        return wait(alloc, notes, clock, key, at, step, octets);
+    if let Some(at) = place(notes, arrival.clock, key) {
+        return wait(notes, arrival, key, at, octets);
     }
-    if count(notes, clock) >= MOST_NOTES {
+    if count(notes, arrival.clock) >= MOST_NOTES {
         return Ok(FragAnswer::Full);
     }
-    let mut held = Parcels::new(alloc);
-    held.push(parcel(alloc, step, octets)?)?;
+    let mut held = Parcels::new(arrival.alloc);
+    held.push(parcel(arrival, octets)?)?;
     notes.push(Note {
         key: *key,
-        deadline: clock + NOTE_TIME,
+        deadline: arrival.clock + NOTE_TIME,
         ports: None,
         held,
     })?;
@@ -121,17 +124,15 @@ fn later(
 
 /// Takes a later fragment whose key has its note at this place.
 fn wait(
-    alloc: Global,
     notes: &mut Notes,
-    clock: u64,
+    arrival: Arrival,
     key: &FragKey,
     at: usize,
-    step: u64,
     octets: &Bytes,
 ) -> Result<FragAnswer, NoMemory>
-    requires { IsPlace clock key.now notes.old at }
-    ensures step { IfOk result (λ answer. record { after = live_at clock notes.new; answer = answer }
-        ≡ frag_now (live_at clock notes.old) step (Later key.now octets.now)) }
+    requires { IsPlace arrival.clock key.now notes.old at }
+    ensures step { IfOk result (λ answer. record { after = live_at arrival.clock notes.new; answer = answer }
+        ≡ frag_now (live_at arrival.clock notes.old) arrival.place (Later key.now octets.now)) }
     ensures err { OnErr result (notes.new ≡ notes.old) }
 {
     let note = notes.get(at);
@@ -141,17 +142,17 @@ fn wait(
     if note.held.as_slice().len() >= MOST_HELD {
         return Ok(FragAnswer::Full);
     }
-    notes.hold(at, parcel(alloc, step, octets)?)?;
+    notes.hold(at, parcel(arrival, octets)?)?;
     Ok(FragAnswer::Held)
 }
 
 /// A fragment that waits, under the place of its step.
-fn parcel(alloc: Global, step: u64, octets: &Bytes) -> Result<Parcel, NoMemory>
-    ensures { IfOk result (λ made. made ≡ record { place = step; bytes = octets.now }) }
+fn parcel(arrival: Arrival, octets: &Bytes) -> Result<Parcel, NoMemory>
+    ensures { IfOk result (λ made. made ≡ record { place = arrival.place; bytes = octets.now }) }
 {
     Ok(Parcel {
-        place: step,
-        bytes: octets.copy(alloc)?,
+        place: arrival.place,
+        bytes: octets.copy(arrival.alloc)?,
     })
 }
 

@@ -1,10 +1,11 @@
 ghost use Rattle.std.specs.Prelude.{◌≡◌, ℕ, ◌<◌, ◌^◌, [], IfOk, OnOk, OnErr};
 ghost use Rattle.frag_table.specs.Frag.{frag, freed_by};
+ghost use Rattle.frag_table.specs.Fragment.{frag_ask};
 
 use crate::live::expire;
 use crate::notes::Notes;
-use crate::rows::{take, waiting};
-use crate::{FragAnswer, FragAsk};
+use crate::rows::{Arrival, take, waiting};
+use crate::{FragAnswer, FragAsk, Fragment};
 use octets::{NoMemory, Parcels};
 use std::alloc::Global;
 use std::marker::Model;
@@ -52,8 +53,29 @@ impl FragTable {
         ensures after { OnOk result (self.new ≡ (frag self.old now place ask.now).after) }
         ensures err { OnErr result (self.new ≡ self.old) }
     {
+        self.take(now, place, &ask.fragment())
+    }
+
+    /// The same step for a fragment whose octets stay where they lie: they are copied only where it has to wait.
+    pub fn take(
+        &mut self,
+        now: u64,
+        place: u64,
+        fragment: &Fragment<'_>,
+    ) -> Result<FragAnswer, NoMemory>
+        requires { now < 2 ^ 63 }
+        ensures answer { IfOk result
+            (λ answer. answer ≡ (frag self.old now place (frag_ask fragment.now)).answer) }
+        ensures after { OnOk result (self.new ≡ (frag self.old now place (frag_ask fragment.now)).after) }
+        ensures err { OnErr result (self.new ≡ self.old) }
+    {
         let clock = self.clock.max(now);
-        let answer = take(self.alloc, &mut self.notes, clock, place, ask)?;
+        let arrival = Arrival {
+            clock,
+            place,
+            alloc: self.alloc,
+        };
+        let answer = take(&mut self.notes, arrival, fragment)?;
         self.clock = clock;
         expire(&mut self.notes, clock);
         Ok(answer)
@@ -61,12 +83,15 @@ impl FragTable {
 
     /// A copy of the parcels that a step would free, and none where it would answer anything but `Released`. Nothing
     /// changes.
-    pub fn waiting(&self, now: u64, ask: &FragAsk) -> Result<Parcels, NoMemory>
-        ensures { IfOk result (λ parcels. (step : ℕ) → parcels ≡ freed_by (frag self.now now step ask.now).answer) }
+    pub fn waiting(&self, now: u64, fragment: &Fragment<'_>) -> Result<Parcels, NoMemory>
+        ensures { IfOk result (λ parcels. (step : ℕ)
+            → parcels ≡ freed_by (frag self.now now step (frag_ask fragment.now)).answer) }
     {
-        match ask {
-            FragAsk::First(key, _) => waiting(self.alloc, &self.notes, self.clock.max(now), key),
-            FragAsk::Later(_, _) => Ok(Parcels::new(self.alloc)),
+        match fragment {
+            Fragment::First(key, _) => {
+                waiting(self.alloc, &self.notes, self.clock.max(now), key)
+            }
+            Fragment::Later(_, _) => Ok(Parcels::new(self.alloc)),
         }
     }
 }

@@ -6,6 +6,7 @@ use crate::drawn::mtus;
 use crate::machine::{self, is_answer_at, say_ask};
 use crate::sent::{say_fault, say_hop, say_unmet};
 use edge_node::{EdgeParams, Way, ask_of, emit};
+use hops::Hop;
 use nat_model::Answer;
 use octets::{Addr4, Fault, Mtus, Parcels};
 use rows::{RowFault, Said, Words};
@@ -15,6 +16,22 @@ use std::alloc::Global;
 #[derive(Drop)]
 pub struct EdgeRows {
     params: EdgeParams,
+}
+
+/// A packet that a row has come to the edge, and the identification of what is cut of it.
+#[derive(Clone, Copy)]
+struct Coming<'a> {
+    way: Way,
+    packet: &'a [u8],
+    id: u16,
+}
+
+/// Says a hop, or that the call's condition isn't met.
+fn say_made(said: &mut Said, hop: Option<Hop>) -> Result<(), RowFault> {
+    match hop {
+        Some(hop) => say_hop(said, &hop),
+        None => say_unmet(said),
+    }
 }
 
 /// Where a packet comes from.
@@ -61,44 +78,35 @@ impl EdgeRows {
         said.flag(true)
     }
 
-    /// Says what the edge emits of a packet that is asked about.
-    fn say_emitted(
+    /// What the edge emits of a packet that is asked about. None where it asks about none.
+    fn emitted(
         &self,
         alloc: Global,
-        said: &mut Said,
-        way: Way,
+        coming: &Coming<'_>,
         answer: &Answer,
-        packet: &[u8],
-        id: u16,
-    ) -> Result<(), RowFault>
-        requires { IsAnswerAt way answer.now }
+    ) -> Result<Option<Hop>, RowFault>
+        requires { IsAnswerAt coming.now.way answer.now }
     {
+        let Coming { way, packet, id } = *coming;
         match ask_of(alloc, way, packet) {
-            Ok(_) => say_hop(said, &emit(alloc, &self.params, way, answer, packet, id)?),
-            Err(Fault::Drop(_)) => say_unmet(said),
+            Ok(_) => Ok(Some(emit(alloc, &self.params, way, answer, packet, id)?)),
+            Err(Fault::Drop(_)) => Ok(None),
             Err(Fault::NoMemory) => Err(RowFault::NoMemory),
         }
     }
 
-    /// Says what it makes of a packet that it drops before it asks.
-    fn say_dropped(
-        &self,
-        alloc: Global,
-        said: &mut Said,
-        way: Way,
-        packet: &[u8],
-        id: u16,
-    ) -> Result<(), RowFault> {
+    /// What it makes of a packet that it drops before it asks. None where it asks about it.
+    fn dropped(&self, alloc: Global, coming: &Coming<'_>) -> Result<Option<Hop>, RowFault> {
+        let Coming { way, packet, id } = *coming;
         match ask_of(alloc, way, packet) {
-            Ok(_) => say_unmet(said),
+            Ok(_) => Ok(None),
             Err(Fault::NoMemory) => Err(RowFault::NoMemory),
             Err(Fault::Drop(cause)) => {
                 let answer = Answer::Refused {
                     cause,
                     freed: Parcels::new(alloc),
                 };
-                let hop = emit(alloc, &self.params, way, &answer, packet, id)?;
-                say_hop(said, &hop)
+                Ok(Some(emit(alloc, &self.params, way, &answer, packet, id)?))
             }
         }
     }
@@ -110,14 +118,19 @@ impl EdgeRows {
         let packet = words.octets(alloc)?;
         let id = words.sixteen()?;
         let word = words.word()?;
+        let coming = Coming {
+            way,
+            packet: packet.as_slice(),
+            id,
+        };
         if word == "dropped" {
-            return self.say_dropped(alloc, said, way, packet.as_slice(), id);
+            return say_made(said, self.dropped(alloc, &coming)?);
         }
         let answer = machine::answer(alloc, word, words)?;
         if !is_answer_at(way, &answer) {
             return say_unmet(said);
         }
-        self.say_emitted(alloc, said, way, &answer, packet.as_slice(), id)
+        say_made(said, self.emitted(alloc, &coming, &answer)?)
     }
 
     /// Makes the call.

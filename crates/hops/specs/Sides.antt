@@ -30,8 +30,10 @@ taken6 at_relay octets p is = is
 pub headed6 : (at_relay : Bool) (octets : List ℕ) (p : Packet6) → IsPacket6 at_relay p octets → IsHeader6 p.head octets
 headed6 at_relay octets p is = (is.is, is.header)
 
-pub dropped6 : (at_relay : Bool) (octets : List ℕ) (cause : Cause) (h : Head6) → IsFound6 at_relay octets (Dropped cause h) → IsHeader6 h octets
+pub dropped6 : (at_relay : Bool) (octets : List ℕ) (cause : Cause) (h : Head6)
+    → IsFound6 at_relay octets (Dropped cause h) → IsHeader6 h octets
 dropped6 at_relay octets cause h is = is.0
 
-pub only6 : (at_relay : Bool) (octets : List ℕ) (found : Found Packet6 Head6) (p : Packet6) → IsFound6 at_relay octets found → IsPacket6 at_relay p octets → found ≡ Taken p
+pub only6 : (at_relay : Bool) (octets : List ℕ) (found : Found Packet6 Head6) (p : Packet6)
+    → IsFound6 at_relay octets found → IsPacket6 at_relay p octets → found ≡ Taken p
 only6 at_relay octets found p is packet = found6 at_relay octets found (Taken p) is packet

@@ -27,7 +27,8 @@ fn carry_freed<S: Side, C: Carries<S>>(
     octets: &[u8],
     hop: &mut Emission,
 ) -> Result<(), NoMemory>
-    ensures { OnOk result (Gains (IsFreed (IsLaterFragment S.IsPacket S.extent_of) (IsOne S.IsPacket (C.Becomes carrier.now)) octets.now) hop.old hop.new) }
+    ensures { OnOk result (Gains (IsFreed (IsLaterFragment S.IsPacket S.extent_of)
+        (IsOne S.IsPacket (C.Becomes carrier.now)) octets.now) hop.old hop.new) }
 {
     match S::read(hop.alloc(), octets)? {
         Found::Taken(packet) => match S::extent(&packet) {
@@ -44,7 +45,8 @@ fn carry_all_freed<S: Side, C: Carries<S>>(
     parcels: &[Parcel],
     hop: &mut Emission,
 ) -> Result<(), NoMemory>
-    ensures { OnOk result (Gains (AreFreed (IsLaterFragment S.IsPacket S.extent_of) (IsOne S.IsPacket (C.Becomes carrier.now)) parcels.now) hop.old hop.new) }
+    ensures { OnOk result (Gains (AreFreed (IsLaterFragment S.IsPacket S.extent_of)
+        (IsOne S.IsPacket (C.Becomes carrier.now)) parcels.now) hop.old hop.new) }
 {
     for parcel in parcels {
         carry_freed::<S, C>(carrier, parcel.bytes.as_slice(), hop)?;
@@ -61,7 +63,8 @@ pub fn carry_flow<S: Side, C: Carries<S>>(
     hop: &mut Emission,
 ) -> Result<(), NoMemory>
     requires { S.IsPacket packet.now octets.now }
-    ensures { OnOk result (Gains (AreBoth (C.Becomes carrier.now packet.now octets.now) (AreFreed (IsLaterFragment S.IsPacket S.extent_of) (IsOne S.IsPacket (C.Becomes carrier.now)) freed.now)) hop.old hop.new) }
+    ensures { OnOk result (Gains (AreBoth (C.Becomes carrier.now packet.now octets.now)
+        (AreFreed (IsLaterFragment S.IsPacket S.extent_of) (IsOne S.IsPacket (C.Becomes carrier.now)) freed.now)) hop.old hop.new) }
 {
     carrier.carry(packet, octets, hop)?;
     carry_all_freed::<S, C>(carrier, freed, hop)

@@ -22,7 +22,8 @@ impl<S: Side> InHand<'_, S> {
     /// The packet is dropped, and answered where an error may answer it.
     pub fn refuse(&self, cause: Cause, hop: &mut Emission) -> Result<(), NoMemory>
         requires { S.IsHeader self.now.head.now self.now.octets.now }
-        ensures { OnOk result (Gains (IsRefused (S.IsReply self.now.from self.now.head.now self.now.octets.now) self.now.from.exit cause) hop.old hop.new) }
+        ensures { OnOk result (Gains (IsRefused
+            (S.IsReply self.now.from self.now.head.now self.now.octets.now) self.now.from.exit cause) hop.old hop.new) }
     {
         let reply = S::reply(hop.alloc(), &self.from, self.head, self.octets, cause)?;
         hop.drop_packet(cause, self.from.exit, reply)
@@ -31,7 +32,8 @@ impl<S: Side> InHand<'_, S> {
     /// The translated packet leaves, whole or in pieces, or the packet is dropped.
     pub fn leave(&self, exit: Exit, passage: Passage, hop: &mut Emission) -> Result<(), NoMemory>
         requires { S.IsHeader self.now.head.now self.now.octets.now }
-        ensures { OnOk result (Gains (IsCarried (IsRefused (S.IsReply self.now.from self.now.head.now self.now.octets.now) self.now.from.exit) exit passage) hop.old hop.new) }
+        ensures { OnOk result (Gains (IsCarried
+            (IsRefused (S.IsReply self.now.from self.now.head.now self.now.octets.now) self.now.from.exit) exit passage) hop.old hop.new) }
     {
         match passage {
             Passage::Sent(octets) => hop.send(exit, octets),

@@ -12,6 +12,8 @@ ghost use Rattle.hops.specs.Reply.{IsAnswer4, IsAnswer6};
 
 /// Law: a packet that is dropped has one answer at most.
 pub fn a_dropped_packet_has_one_answer()
-    ensures four { (h : Header4) (packet : List ℕ) (from : AnsweringOf Address4) (what : Option AnyNotice) → IsOneAtMost (IsAnswer4 h packet from what) }
-    ensures six { (h : Header6) (packet : List ℕ) (from : AnsweringOf Address6) (what : Option AnyNotice) → IsOneAtMost (IsAnswer6 h packet from what) }
+    ensures four { (h : Header4) (packet : List ℕ) (from : AnsweringOf Address4) (what : Option AnyNotice)
+        → IsOneAtMost (IsAnswer4 h packet from what) }
+    ensures six { (h : Header6) (packet : List ℕ) (from : AnsweringOf Address6) (what : Option AnyNotice)
+        → IsOneAtMost (IsAnswer6 h packet from what) }
 {}

@@ -77,5 +77,6 @@ pub trait Side {
     ghost dropped: { (octets : List ℕ) (cause : AnyCause) (h : Self.Head) → IsFound octets (Dropped cause h) → IsHeader h octets };
 
     /// The packet in octets is what is found in them.
-    ghost only: { (octets : List ℕ) (found : FoundOf Self.Packet Self.Head) (p : Self.Packet) → IsFound octets found → IsPacket p octets → found ≡ Taken p };
+    ghost only: { (octets : List ℕ) (found : FoundOf Self.Packet Self.Head) (p : Self.Packet) → IsFound octets found
+        → IsPacket p octets → found ≡ Taken p };
 }

@@ -66,7 +66,9 @@ pub fn error64(
     requires embedded { Stands6 inner.now }
     requires no_query { row.rest ≢ QueryRest }
     requires pointer { LacksPointer64 message.now (Some row) → ⊥ }
-    ensures { IfOk result (λ m. option_map (λ rest. error64 row rest inner.now passing.now.ends) (rest64 passing.now.mtus message.now.rest row.rest) ≡ Some m) }
+    ensures { IfOk result (λ m. option_map
+        (λ rest. error64 row rest inner.now passing.now.ends) (rest64 passing.now.mtus message.now.rest row.rest)
+        ≡ Some m) }
 {
     Ok(Icmp4 {
         kind: row.to_kind,
@@ -115,7 +117,9 @@ fn translated64(
     requires embeds { EmbedsOne64 message.now (Some row) }
     requires pointer { LacksPointer64 message.now (Some row) → ⊥ }
     ensures query { row.rest ≡ QueryRest → IfOk result (λ m. m ≡ query64 message.now row passing.now.ends) }
-    ensures error { (inner : Inner) (rest : ℕ) → IsInner6 inner (embedded64 message.now) → rest64 passing.now.mtus message.now.rest row.rest ≡ Some rest → IfOk result (λ m. m ≡ error64 row rest inner passing.now.ends) }
+    ensures error { (inner : Inner) (rest : ℕ) → IsInner6 inner (embedded64 message.now)
+        → rest64 passing.now.mtus message.now.rest row.rest ≡ Some rest
+        → IfOk result (λ m. m ≡ error64 row rest inner passing.now.ends) }
     ensures no_other { IfErr result (λ f. f ≡ WantsMemory) }
 {
     if matches!(row.rest, Rest::Query) {
@@ -161,7 +165,8 @@ pub fn icmp64(
     id: u16,
 ) -> Result<Bytes, Fault>
     requires { IsAccepted64 packet.now }
-    ensures { (head : Header) (m : Message) → IsMessage64 head m packet.now → IsAnswer64 (record { mtus = mtus; ends = ends.now; id = id }) head m result }
+    ensures { (head : Header) (m : Message) → IsMessage64 head m packet.now
+        → IsAnswer64 (record { mtus = mtus; ends = ends.now; id = id }) head m result }
 {
     let head = Head6::accepted(packet);
     let message = Icmp6::read(alloc, head.src, head.dst, head.payload(packet))?;

@@ -83,7 +83,9 @@ pub fn error46(
     requires embedded { Stands4 inner.now }
     requires no_query { row.rest ≢ QueryRest }
     requires pointer { LacksPointer46 message.now (Some row) → ⊥ }
-    ensures value { IfOk result (λ m. option_map (λ rest. error46 row rest inner.now passing.now.ends) (rest46 passing.now.mtus inner.now.head.total message.now.rest row.rest) ≡ Some m) }
+    ensures value { IfOk result (λ m. option_map
+        (λ rest. error46 row rest inner.now passing.now.ends)
+            (rest46 passing.now.mtus inner.now.head.total message.now.rest row.rest) ≡ Some m) }
     ensures fits { IfOk result (λ m. length m.body ≤ 1232) }
 {
     let rest = rest46(passing.mtus, inner.head.total, message.rest, row.rest);
@@ -129,7 +131,9 @@ fn translated46(
     requires pointer { LacksPointer46 message.now (Some row) → ⊥ }
     requires fits { length message.now.body ≤ 65515 }
     ensures query { row.rest ≡ QueryRest → IfOk result (λ m. m ≡ query46 message.now row passing.now.ends) }
-    ensures error { (inner : Inner) (rest : ℕ) → IsInner4 inner (embedded46 message.now) → rest46 passing.now.mtus inner.head.total message.now.rest row.rest ≡ Some rest → IfOk result (λ m. m ≡ error46 row rest inner passing.now.ends) }
+    ensures error { (inner : Inner) (rest : ℕ) → IsInner4 inner (embedded46 message.now)
+        → rest46 passing.now.mtus inner.head.total message.now.rest row.rest ≡ Some rest
+        → IfOk result (λ m. m ≡ error46 row rest inner passing.now.ends) }
     ensures no_other { IfErr result (λ f. f ≡ WantsMemory) }
     ensures short { IfOk result (λ m. length m.body ≤ 65515) }
 {

@@ -44,11 +44,7 @@ pub fn read_l4(proto: Proto, payload: &[u8], whole: bool) -> Result<L4, Cause>
     if bad {
         return Err(Cause::BadTransport);
     }
-    Ok(match proto {
-        Proto::Tcp => tcp::read(payload),
-        Proto::Udp => udp::read(payload),
-        Proto::Icmp => icmp::read(payload),
-    })
+    Ok(accepted_l4(proto, payload))
 }
 
 /// The ports in the first 8 octets of a transport header, which are the least that an ICMP error embeds of
@@ -65,15 +61,15 @@ pub fn read_ports(proto: Proto, payload: &[u8]) -> Ports
 }
 
 /// The ports, the sum and the flags at the front of a payload that `read_l4` accepts.
-pub fn accepted_l4(proto: Proto, payload: &[u8], whole: bool) -> L4
-    requires { IsBadTransport proto payload.now whole → ⊥ }
-    ensures value { result ≡ l4_of proto payload.now }
-    ensures stands { header_octets proto ≤ length payload.now }
+pub fn accepted_l4(proto: Proto, payload: &[u8]) -> L4
+    requires { header_octets proto ≤ length payload.now }
+    ensures { result ≡ l4_of proto payload.now }
 {
-    let Ok(l4) = read_l4(proto, payload, whole) else {
-        unreachable!();
-    };
-    l4
+    match proto {
+        Proto::Tcp => tcp::read(payload),
+        Proto::Udp => udp::read(payload),
+        Proto::Icmp => icmp::read(payload),
+    }
 }
 
 /// Writes the ports and the sum into a payload that `read_l4` accepts of a first fragment, and so also

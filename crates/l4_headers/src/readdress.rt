@@ -65,7 +65,9 @@ fn pieces(
 ) -> Result<Bytes, NoMemory>
     requires behind { 4 ≤ sum_at }
     requires stands { sum_at + 2 ≤ length payload.now }
-    ensures { IfOk result (λ octets. octets ≡ front ++ (in_word ports.src ++ (in_word ports.dst ++ (part payload.now 4 (sum_at - 4) ++ (in_word sum ++ drop (sum_at + 2) payload.now))))) }
+    ensures { IfOk result (λ octets. octets
+        ≡ front ++ (in_word ports.src ++
+            (in_word ports.dst ++ (part payload.now 4 (sum_at - 4) ++ (in_word sum ++ drop (sum_at + 2) payload.now))))) }
 {
     let mut octets = front;
     octets.extend(&ports.src.to_be_bytes())?;

@@ -90,11 +90,10 @@ impl Wish {
         ensures { result ≡ least_below (is_free (holder_in edge.now) self.now.proto bindings.now) 65536 }
     {
         for i in 0..edge.ports.count() {
-            let Some(port) = edge.ports.at(i) else {
-                unreachable!("there are more claimable ports than this");
-            };
-            if self.is_free(edge, bindings, port) {
-                return Some(port);
+            if let Some(port) = edge.ports.at(i) {
+                if self.is_free(edge, bindings, port) {
+                    return Some(port);
+                }
             }
         }
         None

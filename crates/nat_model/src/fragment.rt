@@ -1,14 +1,14 @@
-ghost use Rattle.std.specs.Prelude.{◌≡◌, IfOk};
+ghost use Rattle.std.specs.Prelude.{◌≡◌};
+ghost use Rattle.std.specs.Option.{option_map};
+ghost use Rattle.frag_table.specs.Fragment.{frag_ask};
 ghost use Rattle.nat_model.specs.Fragment.{port_of, ports_of, part_of, frag_ask_of};
 ghost use Rattle.rule_book.specs.Holder.{holder_in};
 ghost use Rattle.nat_model.specs.Machine.{arrives};
 
 use crate::{Ask, Far, Part};
-use frag_table::FragAsk;
+use frag_table::Fragment;
 use l4_headers::Ports;
 use map_rules::EdgeId;
-use octets::NoMemory;
-use std::alloc::Global;
 
 /// The ports of the packet that is asked about, its source's first.
 pub(crate) fn ports_of(ask: &Ask) -> Ports
@@ -43,19 +43,19 @@ fn port_of(far: &Far) -> u16
     }
 }
 
-/// The fragment step of an ask, if it is about a fragment.
-pub(crate) fn frag_ask_of(alloc: Global, ask: &Ask) -> Result<Option<FragAsk>, NoMemory>
-    ensures { IfOk result (λ step. step ≡ frag_ask_of (part_of ask.now) (ports_of ask.now)) }
+/// The fragment that is asked about, if the ask is about one.
+pub(crate) fn fragment_of(ask: &Ask) -> Option<Fragment<'_>>
+    ensures { option_map frag_ask result ≡ frag_ask_of (part_of ask.now) (ports_of ask.now) }
 {
     let part = match ask {
         Ask::Outward { part, .. } | Ask::Inward { part, .. } => part,
-        Ask::Keep { .. } => return Ok(None),
+        Ask::Keep { .. } => return None,
     };
-    Ok(match part {
+    match part {
         Part::Whole => None,
-        Part::First(key) => Some(FragAsk::First(*key, ports_of(ask))),
-        Part::Later(key, octets) => Some(FragAsk::Later(*key, octets.copy(alloc)?)),
-    })
+        Part::First(key) => Some(Fragment::First(*key, ports_of(ask))),
+        Part::Later(key, octets) => Some(Fragment::Later(*key, octets)),
+    }
 }
 
 /// Whether the packet is for the edge: an inward one for its own MAP address, and a turned one for its IPv4 address.

@@ -7,7 +7,7 @@ ghost use Rattle.std.specs.List.{filter};
 ghost use Rattle.nat_model.specs.Sound.{AreSound, IsSound};
 ghost use Rattle.nat_model.specs.Waiting.{FreesAtMost};
 
-use crate::fragment::{arrives, frag_ask_of};
+use crate::fragment::{arrives, fragment_of};
 use crate::stay::{staying, unexpired};
 use crate::steps::{Standing, refused};
 use crate::{Answer, Ask, Binding};
@@ -55,7 +55,12 @@ impl Machine {
         requires sound { AreSound (holder_of (V.rules view.now) prefix) kept.now }
         ensures start { IfOk result (λ made. made ≡ record {
           prefix = prefix;
-          state = record { book = record { rules = V.rules view.now; dmr = V.default_rule view.now; number = V.number view.now }; clock = 0; bindings = kept.now; notes = [] };
+          state = record {
+            book = record { rules = V.rules view.now; dmr = V.default_rule view.now; number = V.number view.now };
+            clock = 0;
+            bindings = kept.now;
+            notes = [];
+          };
           steps = 0;
         }) }
         ensures sound { IfOk result (λ made. IsSound made.prefix made.state) }
@@ -79,7 +84,7 @@ impl Machine {
           place = self.now.steps;
         }) ask.now).answer) }
     {
-        match frag_ask_of(self.alloc, ask)? {
+        match fragment_of(ask) {
             Some(fragment) => self.notes.waiting(self.clock.max(now), &fragment),
             None => Ok(Parcels::new(self.alloc)),
         }
@@ -95,8 +100,14 @@ impl Machine {
         requires steps { self.old.steps < 2 ^ 64 - 1 }
         requires now { now < 2 ^ 63 }
         requires newer { self.old.state.book.number < V.number view.now }
-        ensures answer { IfOk result (λ answer. answer ≡ (timed self.old.prefix (renewed self.old.prefix (record { rules = V.rules view.now; dmr = V.default_rule view.now; number = V.number view.now }) self.old.state) now self.old.steps ask.now).answer) }
-        ensures after { OnOk result (self.new.state ≡ (timed self.old.prefix (renewed self.old.prefix (record { rules = V.rules view.now; dmr = V.default_rule view.now; number = V.number view.now }) self.old.state) now self.old.steps ask.now).after) }
+        ensures answer { IfOk result (λ answer. answer
+            ≡ (timed self.old.prefix (renewed self.old.prefix (record { rules = V.rules view.now;
+            dmr = V.default_rule view.now;
+            number = V.number view.now }) self.old.state) now self.old.steps ask.now).answer) }
+        ensures after { OnOk result (self.new.state
+            ≡ (timed self.old.prefix (renewed self.old.prefix (record { rules = V.rules view.now;
+            dmr = V.default_rule view.now;
+            number = V.number view.now }) self.old.state) now self.old.steps ask.now).after) }
         ensures prefix { OnOk result (self.new.prefix ≡ self.old.prefix) }
         ensures steps { OnOk result (self.new.steps ≡ self.old.steps + 1) }
         ensures err { OnErr result (self.new ≡ self.old) }
@@ -209,8 +220,14 @@ impl Known<'_> {
         requires clock { self.now.clock < 2 ^ 63 }
         requires notes { notes.old.clock ≤ self.now.clock }
         ensures moved { IfOk result (λ made.
-            held_by (state_at (generation_in self.now.book.now) self.now.clock (filter (is_unexpired self.now.clock) staying.now) notes.old.notes) self.now.place ask.now (holder_of (generation_in self.now.book.now).rules self.now.prefix)
-            ≡ record { after = state_at (generation_in self.now.book.now) self.now.clock made.bindings.items notes.new.notes; answer = made.answer }) }
+            held_by
+                (state_at (generation_in self.now.book.now) self.now.clock
+                    (filter (is_unexpired self.now.clock) staying.now) notes.old.notes)
+                self.now.place ask.now (holder_of (generation_in self.now.book.now).rules self.now.prefix)
+            ≡ record {
+                after = state_at (generation_in self.now.book.now) self.now.clock made.bindings.items notes.new.notes;
+                answer = made.answer;
+            }) }
         ensures clock { OnOk result (notes.new.clock ≤ self.now.clock) }
         ensures err { OnErr result (notes.new ≡ notes.old) }
     {
@@ -228,8 +245,9 @@ impl Known<'_> {
             edge,
             book: self.book,
             clock: self.clock,
+            alloc,
         };
-        let answer = standing.gathered(alloc, self.place, ask, &mut bindings, notes)?;
+        let answer = standing.gathered(self.place, ask, &mut bindings, notes)?;
         Ok(Moved { bindings, answer })
     }
 }

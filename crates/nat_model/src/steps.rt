@@ -7,7 +7,7 @@ ghost use Rattle.nat_model.specs.Fragment.{part_of, ports_of, frag_ask_of};
 ghost use Rattle.nat_model.specs.Inside.{wish_in, remote_in};
 
 use crate::claim::{Wish, place_of_host, place_of_port};
-use crate::fragment::{frag_ask_of, ports_of};
+use crate::fragment::{fragment_of, ports_of};
 use crate::remote::{Remote, far_port, remote_of, sent};
 use crate::{Answer, Ask, Binding, End4};
 use frag_table::{FragAnswer, FragTable};
@@ -17,12 +17,21 @@ use octets::{Cause, NoMemory, Parcels, Proto};
 use rule_book::Book;
 use std::alloc::Global;
 
-/// What a step goes by: what the edge holds, the rules, and the time in microseconds.
+/// What a step goes by: what the edge holds, the rules, the time in microseconds, and where lists take memory.
 #[derive(Drop)]
 pub(crate) struct Standing<'a> {
     pub(crate) edge: EdgeId,
     pub(crate) book: &'a Book,
     pub(crate) clock: u64,
+    pub(crate) alloc: Global,
+}
+
+/// An inward packet: whether it is an error, its protocol and its ports, which its fragment step may have told.
+#[derive(Clone, Copy)]
+struct Inbound {
+    fault: bool,
+    proto: Proto,
+    ports: Ports,
 }
 
 /// A packet, and all that it frees, is dropped.
@@ -47,7 +56,8 @@ impl Standing<'_> {
         requires room { vec_len bindings.old < vec_capacity bindings.old }
         requires clock { self.now.clock < 2 ^ 63 }
         ensures { (notes : List NoteType)
-            → sent_flow (holder_in self.now.edge) (state_at (generation_in self.now.book.now) self.now.clock bindings.old.items notes) (wish_in wish) far freed
+            → sent_flow (holder_in self.now.edge)
+                (state_at (generation_in self.now.book.now) self.now.clock bindings.old.items notes) (wish_in wish) far freed
             ≡ record { after = state_at (generation_in self.now.book.now) self.now.clock bindings.new.items notes; answer = result } }
     {
         let Some(placed) = wish.placed(&self.edge, self.clock, bindings) else {
@@ -60,15 +70,16 @@ impl Standing<'_> {
 
     /// A port is kept: the binding of the protocol and host end, or else a claim.
     #[tactic(auto, unfolding(crate::specs::Machine::keeps))]
-    fn keeps(&self, alloc: Global, wish: Wish, until: u64, bindings: &mut Vec<Binding>) -> Answer
+    fn keeps(&self, wish: Wish, until: u64, bindings: &mut Vec<Binding>) -> Answer
         requires room { vec_len bindings.old < vec_capacity bindings.old }
         requires clock { self.now.clock < 2 ^ 63 }
         ensures { (notes : List NoteType)
-            → keeps (holder_in self.now.edge) (state_at (generation_in self.now.book.now) self.now.clock bindings.old.items notes) (wish_in wish) until
+            → keeps (holder_in self.now.edge)
+                (state_at (generation_in self.now.book.now) self.now.clock bindings.old.items notes) (wish_in wish) until
             ≡ record { after = state_at (generation_in self.now.book.now) self.now.clock bindings.new.items notes; answer = result } }
     {
         let Some(placed) = wish.placed(&self.edge, self.clock, bindings) else {
-            return refused(Cause::NoPort, Parcels::new(alloc));
+            return refused(Cause::NoPort, Parcels::new(self.alloc));
         };
         let binding = placed.binding.kept_until(until);
         bindings[placed.at] = binding;
@@ -82,7 +93,8 @@ impl Standing<'_> {
     #[tactic(auto, unfolding(crate::specs::Machine::sent_error))]
     fn sent_error(&self, wish: Wish, far: End4, freed: Parcels, bindings: &[Binding]) -> Answer
         ensures { (notes : List NoteType)
-            → sent_error (holder_in self.now.edge) (state_at (generation_in self.now.book.now) self.now.clock bindings.now notes) (wish_in wish) far freed
+            → sent_error (holder_in self.now.edge)
+                (state_at (generation_in self.now.book.now) self.now.clock bindings.now notes) (wish_in wish) far freed
             ≡ record { after = state_at (generation_in self.now.book.now) self.now.clock bindings.now notes; answer = result } }
     {
         let Some(at) = place_of_host(bindings, wish.proto, wish.near) else {
@@ -95,7 +107,8 @@ impl Standing<'_> {
     /// What is sent from a binding to the far end.
     fn sent_from(&self, binding: &Binding, far: End4, freed: Parcels) -> Answer
         ensures { (bs : List BindingType) (notes : List NoteType)
-            → result ≡ sent_from (holder_in self.now.edge) (state_at (generation_in self.now.book.now) self.now.clock bs notes) binding.now far freed }
+            → result ≡ sent_from (holder_in self.now.edge)
+                (state_at (generation_in self.now.book.now) self.now.clock bs notes) binding.now far freed }
     {
         let to = End4 {
             addr: far.addr,
@@ -108,9 +121,7 @@ impl Standing<'_> {
     #[tactic(auto, unfolding(crate::specs::Machine::received))]
     fn received(
         &self,
-        fault: bool,
-        proto: Proto,
-        ports: Ports,
+        inbound: Inbound,
         freed: Parcels,
         remote: Remote,
         bindings: &mut Vec<Binding>,
@@ -118,14 +129,14 @@ impl Standing<'_> {
         requires clock { self.now.clock < 2 ^ 63 }
         ensures { (notes : List NoteType)
             → received (state_at (generation_in self.now.book.now) self.now.clock bindings.old.items notes)
-            fault proto (record { ports = ports; freed = freed }) (remote_in remote)
+            inbound.fault inbound.proto (record { ports = inbound.ports; freed = freed }) (remote_in remote)
             ≡ record { after = state_at (generation_in self.now.book.now) self.now.clock bindings.new.items notes; answer = result } }
     {
-        let Some(at) = place_of_port(bindings, proto, ports.dst) else {
+        let Some(at) = place_of_port(bindings, inbound.proto, inbound.ports.dst) else {
             return refused(Cause::NoBinding, freed);
         };
         let binding = bindings[at];
-        bindings[at] = binding.entered(fault, self.clock);
+        bindings[at] = binding.entered(inbound.fault, self.clock);
         Answer::In {
             to: binding.host,
             port: binding.host_port,
@@ -139,7 +150,6 @@ impl Standing<'_> {
     /// each goes by its binding.
     pub(crate) fn passed(
         &self,
-        alloc: Global,
         ask: &Ask,
         ports: Ports,
         freed: Parcels,
@@ -185,7 +195,14 @@ impl Standing<'_> {
                 far,
                 ..
             } => match remote_of(self.book, far, ports.src) {
-                Ok(remote) => self.received(*fault, *proto, ports, freed, remote, bindings),
+                Ok(remote) => {
+                    let inbound = Inbound {
+                        fault: *fault,
+                        proto: *proto,
+                        ports,
+                    };
+                    self.received(inbound, freed, remote, bindings)
+                }
                 Err(cause) => refused(cause, freed),
             },
             Ask::Keep {
@@ -204,7 +221,7 @@ impl Standing<'_> {
                     near,
                     port: *port,
                 };
-                self.keeps(alloc, wish, *until, bindings)
+                self.keeps(wish, *until, bindings)
             }
         }
     }
@@ -212,7 +229,6 @@ impl Standing<'_> {
     /// What becomes of a fragment, by what its fragment step answers.
     pub(crate) fn told(
         &self,
-        alloc: Global,
         ask: &Ask,
         answer: FragAnswer,
         bindings: &mut Vec<Binding>,
@@ -220,24 +236,24 @@ impl Standing<'_> {
         requires room { vec_len bindings.old < vec_capacity bindings.old }
         requires clock { self.now.clock < 2 ^ 63 }
         ensures { (notes : List NoteType)
-            → told (holder_in self.now.edge) (state_at (generation_in self.now.book.now) self.now.clock bindings.old.items notes) ask.now answer
+            → told (holder_in self.now.edge)
+                (state_at (generation_in self.now.book.now) self.now.clock bindings.old.items notes) ask.now answer
             ≡ record { after = state_at (generation_in self.now.book.now) self.now.clock bindings.new.items notes; answer = result } }
     {
         let (ports, freed) = match answer {
-            FragAnswer::Noted => (ports_of(ask), Parcels::new(alloc)),
-            FragAnswer::Known(ports) => (ports, Parcels::new(alloc)),
+            FragAnswer::Noted => (ports_of(ask), Parcels::new(self.alloc)),
+            FragAnswer::Known(ports) => (ports, Parcels::new(self.alloc)),
             FragAnswer::Released(parcels) => (ports_of(ask), parcels),
             FragAnswer::Held => return Answer::Held,
-            FragAnswer::Full => return refused(Cause::FragmentsFull, Parcels::new(alloc)),
+            FragAnswer::Full => return refused(Cause::FragmentsFull, Parcels::new(self.alloc)),
         };
-        self.passed(alloc, ask, ports, freed, bindings)
+        self.passed(ask, ports, freed, bindings)
     }
 
     /// What becomes of a packet: a fragment takes its fragment step first, under the place of this one. After want of
     /// memory the notes are as they were.
     pub(crate) fn gathered(
         &self,
-        alloc: Global,
         place: u64,
         ask: &Ask,
         bindings: &mut Vec<Binding>,
@@ -247,16 +263,21 @@ impl Standing<'_> {
         requires clock { self.now.clock < 2 ^ 63 }
         requires notes { notes.old.clock ≤ self.now.clock }
         ensures gathered { IfOk result (λ answer.
-            gathered (holder_in self.now.edge) (state_at (generation_in self.now.book.now) self.now.clock bindings.old.items notes.old.notes) place ask.now (frag_ask_of (part_of ask.now) (ports_of ask.now))
-            ≡ record { after = state_at (generation_in self.now.book.now) self.now.clock bindings.new.items notes.new.notes; answer = answer }) }
+            gathered (holder_in self.now.edge)
+                (state_at (generation_in self.now.book.now) self.now.clock bindings.old.items notes.old.notes)
+                place ask.now (frag_ask_of (part_of ask.now) (ports_of ask.now))
+            ≡ record {
+                after = state_at (generation_in self.now.book.now) self.now.clock bindings.new.items notes.new.notes;
+                answer = answer;
+            }) }
         ensures clock { OnOk result (notes.new.clock ≤ self.now.clock) }
         ensures err { OnErr result (notes.new ≡ notes.old) }
     {
-        let Some(step) = frag_ask_of(alloc, ask)? else {
-            let (ports, freed) = (ports_of(ask), Parcels::new(alloc));
-            return Ok(self.passed(alloc, ask, ports, freed, bindings));
+        let Some(fragment) = fragment_of(ask) else {
+            let (ports, freed) = (ports_of(ask), Parcels::new(self.alloc));
+            return Ok(self.passed(ask, ports, freed, bindings));
         };
-        let answer = notes.step(self.clock, place, &step)?;
-        Ok(self.told(alloc, ask, answer, bindings))
+        let answer = notes.take(self.clock, place, &fragment)?;
+        Ok(self.told(ask, answer, bindings))
     }
 }

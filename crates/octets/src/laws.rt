@@ -12,15 +12,18 @@ pub fn written_texts_are_read()
     ensures addr4 { (n : ℕ) → n < 2 ^ 32 → IsText4 (text4 n) n }
     ensures addr6 { (n : ℕ) → n < 2 ^ 128 → IsText6 (text6 n) n }
     ensures prefix4 { (bits len : ℕ) → bits < 2 ^ 32 → len ≤ 32 → IsClearFrom 32 bits len → IsPrefixText4 (prefix_text4 bits len) bits len }
-    ensures prefix6 { (bits len : ℕ) → bits < 2 ^ 128 → len ≤ 128 → IsClearFrom 128 bits len → IsPrefixText6 (prefix_text6 bits len) bits len }
+    ensures prefix6 { (bits len : ℕ) → bits < 2 ^ 128 → len ≤ 128 → IsClearFrom 128 bits len
+        → IsPrefixText6 (prefix_text6 bits len) bits len }
 {}
 
 /// A text spells one address or prefix at most.
 pub fn a_text_spells_one_value()
     ensures addr4 { (text : List ℕ) (n m : ℕ) → IsText4 text n → IsText4 text m → n ≡ m }
     ensures addr6 { (text : List ℕ) (n m : ℕ) → IsText6 text n → IsText6 text m → n ≡ m }
-    ensures prefix4 { (text : List ℕ) (bits len other long : ℕ) → IsPrefixText4 text bits len → IsPrefixText4 text other long → (bits ≡ other) × (len ≡ long) }
-    ensures prefix6 { (text : List ℕ) (bits len other long : ℕ) → IsPrefixText6 text bits len → IsPrefixText6 text other long → (bits ≡ other) × (len ≡ long) }
+    ensures prefix4 { (text : List ℕ) (bits len other long : ℕ) → IsPrefixText4 text bits len
+        → IsPrefixText4 text other long → (bits ≡ other) × (len ≡ long) }
+    ensures prefix6 { (text : List ℕ) (bits len other long : ℕ) → IsPrefixText6 text bits len
+        → IsPrefixText6 text other long → (bits ≡ other) × (len ≡ long) }
 {}
 
 /// An IPv4 address and an IPv4 prefix have one text: the one that is written.

@@ -31,7 +31,7 @@ fn whole_segment(proto: Proto, payload: &[u8]) -> Segment<'_>
 {
     Segment {
         proto,
-        header: Some(accepted_l4(proto, payload, true)),
+        header: Some(accepted_l4(proto, payload)),
         payload,
     }
 }

@@ -53,9 +53,11 @@ pub fn cut6(alloc: Global, packet: &[u8], mtu6: u16, id: u32) -> Result<Parcels,
     requires written { (h : Header) × (payload : List ℕ) × IsCuttable h payload packet.now }
     requires longer { mtu6 < length packet.now }
     requires least { 1280 ≤ mtu6 }
-    ensures cut { (h : Header) (payload : List ℕ) → IsCuttable h payload packet.now → IfOk result (λ pieces. AreCut (cut_for h payload mtu6 id) pieces) }
+    ensures cut { (h : Header) (payload : List ℕ) → IsCuttable h payload packet.now
+        → IfOk result (λ pieces. AreCut (cut_for h payload mtu6 id) pieces) }
     // The pieces give the payload again.
-    ensures again { (h : Header) (payload : List ℕ) → IsCuttable h payload packet.now → IfOk result (λ pieces. GiveAgain (cut_for h payload mtu6 id) (length pieces)) }
+    ensures again { (h : Header) (payload : List ℕ) → IsCuttable h payload packet.now
+        → IfOk result (λ pieces. GiveAgain (cut_for h payload mtu6 id) (length pieces)) }
     ensures fits { (h : Header) (payload : List ℕ) → IsCuttable h payload packet.now → IfOk result (λ pieces. EachFits mtu6 pieces) }
 {
     let Some(head) = Head6::read_embedded(packet) else {

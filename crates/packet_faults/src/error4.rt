@@ -116,8 +116,10 @@ pub fn fault4(
     id: u16,
 ) -> Result<Option<Bytes>, NoMemory>
     requires { HasNoHeaderCause4 packet.now }
-    ensures none { (h : Header) (payload : List ℕ) → Is4 h payload packet.now → IfOk result (λ error. (error ≡ None) ↔ IsUnanswered4 h payload) }
-    ensures error { (h : Header) (payload : List ℕ) → Is4 h payload packet.now → IfOk result (λ error. IfSome error (λ octets. octets ≡ error4 h packet.now (notice kind code rest) src id)) }
+    ensures none { (h : Header) (payload : List ℕ) → Is4 h payload packet.now
+        → IfOk result (λ error. (error ≡ None) ↔ IsUnanswered4 h payload) }
+    ensures error { (h : Header) (payload : List ℕ) → Is4 h payload packet.now
+        → IfOk result (λ error. IfSome error (λ octets. octets ≡ error4 h packet.now (notice kind code rest) src id)) }
     ensures bounded { IfOk result (λ error. IfSome error (λ octets. length octets ≤ 576)) }
     // The error is a packet that the header reader accepts.
     ensures accepted { IfOk result (λ error. IfSome error (λ octets. HasNoHeaderCause4 octets)) }

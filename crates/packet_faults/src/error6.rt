@@ -104,8 +104,10 @@ pub fn fault6(
     src: Addr6,
 ) -> Result<Option<Bytes>, NoMemory>
     requires { HasNoHeaderCause6 packet.now }
-    ensures none { (h : Header) (payload : List ℕ) → Is6 h payload packet.now → IfOk result (λ error. (error ≡ None) ↔ IsUnanswered6 h payload) }
-    ensures error { (h : Header) (payload : List ℕ) → Is6 h payload packet.now → IfOk result (λ error. IfSome error (λ octets. octets ≡ error6 h packet.now (notice kind code rest) src)) }
+    ensures none { (h : Header) (payload : List ℕ) → Is6 h payload packet.now
+        → IfOk result (λ error. (error ≡ None) ↔ IsUnanswered6 h payload) }
+    ensures error { (h : Header) (payload : List ℕ) → Is6 h payload packet.now
+        → IfOk result (λ error. IfSome error (λ octets. octets ≡ error6 h packet.now (notice kind code rest) src)) }
     ensures bounded { IfOk result (λ error. IfSome error (λ octets. length octets ≤ 1280)) }
     // The error is a packet that the header reader accepts.
     ensures accepted { IfOk result (λ error. IfSome error (λ octets. HasNoHeaderCause6 octets)) }

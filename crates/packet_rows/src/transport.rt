@@ -65,7 +65,7 @@ fn accepted(alloc: Global, words: &mut Words<'_>, said: &mut Said) -> Result<(),
     if read_l4(proto, payload, whole).is_err() {
         return said.word("unmet");
     }
-    say_l4(&accepted_l4(proto, payload, whole), said)
+    say_l4(&accepted_l4(proto, payload), said)
 }
 
 fn ports(alloc: Global, words: &mut Words<'_>, said: &mut Said) -> Result<(), RowFault> {

@@ -12,7 +12,8 @@ ghost use Rattle.packets.specs.Packet6.{IsPacket6};
 /// one packet and one cause.
 pub fn octets_are_one_packet_or_have_one_cause()
     ensures four { (octets : List ℕ) → IsTakenOrDropped (λ p. IsPacket4 p octets) (λ cause. IsDropped4 cause octets) }
-    ensures six { (at_relay : Bool) (octets : List ℕ) → IsTakenOrDropped (λ p. IsPacket6 at_relay p octets) (λ cause. IsDropped6 at_relay cause octets) }
+    ensures six { (at_relay : Bool) (octets : List ℕ)
+        → IsTakenOrDropped (λ p. IsPacket6 at_relay p octets) (λ cause. IsDropped6 at_relay cause octets) }
 {}
 
 /// Law: one thing is found in octets at most.

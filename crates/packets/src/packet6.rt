@@ -83,7 +83,8 @@ fn embedded_packet6(
     at_relay: bool,
 ) -> Result<Inner6, Fault>
     ensures found { IfOk result (λ inner. IsInner6 inner (embedded64 message.now) × IsAnswered6 at_relay head.now inner) }
-    ensures refused { (cause : AnyCause) → result ≡ Err (Dropped cause) → (cause ≡ BadInner) × IsBadEmbedded6 at_relay head.now message.now }
+    ensures refused { (cause : AnyCause) → result ≡ Err (Dropped cause) → (cause ≡ BadInner)
+        × IsBadEmbedded6 at_relay head.now message.now }
 {
     let inner = read_inner6(alloc, message.embedded())?;
     if inner.head.src != head.dst {

@@ -75,7 +75,8 @@ fn pass<V: RuleView>(
 
 /// The MAP address of the packet's destination for the port of the flow, where a rule gives one.
 fn own<V: RuleView>(relay: &Relay<'_, V>, packet: &Packet4, ports: Ports) -> Option<Addr6>
-    ensures { option_map (λ own. own.0) result ≡ own_of relay.now packet.now.head.dst (destination_port (flow_of4 packet.now.content).fault ports) }
+    ensures { option_map (λ own. own.0) result
+        ≡ own_of relay.now packet.now.head.dst (destination_port (flow_of4 packet.now.content).fault ports) }
 {
     let port = if packet.flow().fault {
         ports.src

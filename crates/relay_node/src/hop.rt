@@ -135,7 +135,8 @@ impl Taken {
         told: Option<&FragAnswer>,
     ) -> Result<Hop, NoMemory>
         requires { IsRead octets.now self.now }
-        ensures { IfOk result (λ hop. IsRelayHop relay.now (is_six self.now) octets.now (option_map (λ answer. answer.now) told.entry) hop) }
+        ensures { IfOk result (λ hop. IsRelayHop relay.now (is_six self.now) octets.now (option_map
+            (λ answer. answer.now) told.entry) hop) }
     {
         match self {
             Taken::Six(found) => hop_of::<V, Ipv6<true>>(alloc, relay, found, octets, told),
@@ -165,7 +166,9 @@ pub fn relay_hop<V: RuleView>(
     frag: Option<&FragAnswer>,
 ) -> Result<Hop, NoMemory>
     requires { IsTold six packet.now (option_map (λ answer. answer.now) frag) }
-    ensures { IfOk result (λ hop. IsRelayHop (relay_at (V.rules view.now) (V.default_rule view.now) params.now id) six packet.now (option_map (λ answer. answer.now) frag.entry) hop) }
+    ensures { IfOk result (λ hop. IsRelayHop
+        (relay_at (V.rules view.now) (V.default_rule view.now) params.now id) six packet.now (option_map
+        (λ answer. answer.now) frag.entry) hop) }
 {
     let relay = Relay::new(view, params, id);
     let taken = Taken::read(alloc, six, packet)?;

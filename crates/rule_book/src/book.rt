@@ -93,10 +93,9 @@ impl Book {
     {
         let mut rules = Rules::new(alloc);
         for i in 0..view.count() {
-            let Some(rule) = view.rule(i) else {
-                unreachable!("there are more rules than this");
-            };
-            rules.push(rule)?;
+            if let Some(rule) = view.rule(i) {
+                rules.push(rule)?;
+            }
         }
         Ok(Book {
             rules,

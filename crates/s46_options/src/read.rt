@@ -88,7 +88,9 @@ fn read_item(
     ensures option { IfOk result (λ item. item_option item ≡ option_of option.now) }
     ensures reads { IfOk result (ReadsItem (option_of option.now)) }
     ensures fits { IfOk result (λ item. item_fits item ≡ true) }
-    ensures refused { IfErr result (λ e. (first (item_faults_beside seen.rules seen.dmr at (option_of option.now)) ≡ Some e) ⊎ (e ≡ OptionFault.NoMemory)) }
+    ensures refused { IfErr result
+        (λ e. (first (item_faults_beside seen.rules seen.dmr at (option_of option.now)) ≡ Some e)
+        ⊎ (e ≡ OptionFault.NoMemory)) }
 {
     match option.code {
         RULE => {
@@ -135,7 +137,9 @@ fn read_items(alloc: Global, parts: &Cut<'_>) -> Result<Vec<Item>, OptionFault>
     ensures reads { IfOk result (λ items. AllZip ReadsItem (options_of parts.now.options.items) items.items) }
     ensures options { IfOk result (λ items. map item_option items.items ≡ options_of parts.now.options.items) }
     ensures accepted { IfOk result (λ items. is_accepted items.items ≡ true) }
-    ensures refused { IfErr result (λ e. (first (all_faults item_judge 4 (cut_of parts.now) ++ missing (options_of parts.now.options.items)) ≡ Some e) ⊎ (e ≡ OptionFault.NoMemory)) }
+    ensures refused { IfErr result
+        (λ e. (first (all_faults item_judge 4 (cut_of parts.now) ++ missing (options_of parts.now.options.items))
+        ≡ Some e) ⊎ (e ≡ OptionFault.NoMemory)) }
 {
     let mut items = Vec::new(alloc);
     let mut place = HEAD_LEN as u32;

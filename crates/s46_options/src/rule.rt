@@ -96,7 +96,8 @@ fn read_sub(
     ensures option { IfOk result (λ sub. sub_option sub ≡ option_of option.now) }
     ensures reads { IfOk result (ReadsSub (option_of option.now)) }
     ensures fits { IfOk result (λ sub. sub_fits sub ≡ true) }
-    ensures refused { IfErr result (λ e. (first (sub_faults_beside second at (option_of option.now)) ≡ Some e) ⊎ (e ≡ OptionFault.NoMemory)) }
+    ensures refused { IfErr result
+        (λ e. (first (sub_faults_beside second at (option_of option.now)) ≡ Some e) ⊎ (e ≡ OptionFault.NoMemory)) }
 {
     if option.code != PARAMS {
         let mut octets = Bytes::new(alloc);

@@ -21,9 +21,8 @@ use Rattle.transit.specs.declared.passage.Passage.{Passage}
 use Rattle.transit.specs.declared.passage.Passage.TheVariants.{Sent, Cut, Spent, TooBig}
 
 -- an ICMP error of this row about this embedded packet, where its four octets have a translation
-abbrev pub error_packet46 : Mtus → Head4 → Icmp4 → Row → Inner4 → Ends Addr6 → Option (List ℕ)
-error_packet46 mtus h m row inner ends =
-    option_map (λ rest. with_message46 h (error46 row rest inner ends) ends) (rest46 mtus inner.head.total m.rest row.rest)
+abbrev pub error_packet46 : Head4 → Row → Inner4 → Ends Addr6 → Option ℕ → Option (List ℕ)
+error_packet46 h row inner ends rest = option_map (λ rest. with_message46 h (error46 row rest inner ends) ends) rest
 
 -- The packet over IPv6, between these ends, by what it carries. A later fragment has no ports, a query has its identifier
 -- in their place, and an error has them in the packet that it embeds.
@@ -33,7 +32,8 @@ translation46 mtus h payload ends (Segment proto l4) =
 translation46 mtus h payload ends (Later proto) =
     Some (packet46 (record { head = h; proto = proto; payload = payload }) ends.src ends.dst None)
 translation46 mtus h payload ends (Query message row) = Some (with_message46 h (query46 message row ends) ends)
-translation46 mtus h payload ends (Error message row inner) = error_packet46 mtus h message row inner ends
+translation46 mtus h payload ends (Error message row inner) =
+    error_packet46 h row inner ends (rest46 mtus inner.head.total message.rest row.rest)
 
 -- What may not be cut: a whole packet that says "don't fragment", and an ICMP message. A query is not cut, and an error
 -- has at most the 1280 octets that every link carries.

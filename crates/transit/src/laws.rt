@@ -24,7 +24,8 @@ ghost use Rattle.icmp_xlat.specs.declared.passing.Passing.{Passing as PassingTo}
 
 /// Law: one thing at most becomes of a packet between given ends.
 pub fn a_packet_has_one_passage()
-    ensures four { (mtus : TheMtus) (p : AnyPacket4) (payload : List ℕ) (ends : TheEnds Address6) → IsOneAtMost (IsPassage46 mtus p payload ends) }
+    ensures four { (mtus : TheMtus) (p : AnyPacket4) (payload : List ℕ) (ends : TheEnds Address6)
+        → IsOneAtMost (IsPassage46 mtus p payload ends) }
     ensures six { (way : PassingTo Address4) (p : AnyPacket6) (payload : List ℕ) → IsOneAtMost (IsPassage64 way p payload) }
 {}
 
@@ -37,14 +38,18 @@ pub fn a_packet_is_cut_in_one_way()
 /// takes, and the other way round.
 pub fn translators_take_the_segments_that_a_node_takes()
     ensures four { (parts : PartsOf4) (octets : List ℕ) → HasNoTcpUdpCause4 parts octets ↔ TakesParts4 parts octets }
-    ensures six { (at_relay : Bool) (parts : PartsOf6) (octets : List ℕ) → HasNoTcpUdpCause6 parts octets ↔ TakesParts6 at_relay parts octets }
+    ensures six { (at_relay : Bool) (parts : PartsOf6) (octets : List ℕ) → HasNoTcpUdpCause6 parts octets
+        ↔ TakesParts6 at_relay parts octets }
 {}
 
 /// Law: an ICMP packet that a node takes, or drops because its message has no translation, is one that the translators take;
 /// and one that they take is such a packet where what its message embeds is what a node asks for.
 pub fn translators_take_the_messages_that_a_node_takes()
-    ensures taken4 { (h : Header4) (m : Message4) (octets : List ℕ) → TakesMessage4 h m octets → IsMessage46 h m octets × MayEmbed46 m × EmbedsFor4 h m }
+    ensures taken4 { (h : Header4) (m : Message4) (octets : List ℕ) → TakesMessage4 h m octets
+        → IsMessage46 h m octets × MayEmbed46 m × EmbedsFor4 h m }
     ensures found4 { (h : Header4) (m : Message4) (octets : List ℕ) → IsMessage46 h m octets → EmbedsFor4 h m → TakesMessage4 h m octets }
-    ensures taken6 { (at_relay : Bool) (h : Header6) (m : Message6) (octets : List ℕ) → TakesMessage6 at_relay h m octets → IsMessage64 h m octets × MayEmbed64 m × EmbedsFor6 at_relay h m }
-    ensures found6 { (at_relay : Bool) (h : Header6) (m : Message6) (octets : List ℕ) → IsMessage64 h m octets → EmbedsFor6 at_relay h m → TakesMessage6 at_relay h m octets }
+    ensures taken6 { (at_relay : Bool) (h : Header6) (m : Message6) (octets : List ℕ)
+        → TakesMessage6 at_relay h m octets → IsMessage64 h m octets × MayEmbed64 m × EmbedsFor6 at_relay h m }
+    ensures found6 { (at_relay : Bool) (h : Header6) (m : Message6) (octets : List ℕ) → IsMessage64 h m octets
+        → EmbedsFor6 at_relay h m → TakesMessage6 at_relay h m octets }
 {}

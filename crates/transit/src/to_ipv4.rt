@@ -54,7 +54,8 @@ fn translated(
     requires is { (at_relay : Bool) × IsPacket6 at_relay packet.now octets.now }
     requires alive { 1 ≤ packet.now.head.hop }
     requires room { HasRoom packet.now.head packet.now.content }
-    ensures { IfOk result (λ written. translation64 passing.now packet.now.head (payload_of6 packet.now.head octets.now) packet.now.content ≡ Some written) }
+    ensures { IfOk result (λ written. translation64 passing.now packet.now.head
+        (payload_of6 packet.now.head octets.now) packet.now.content ≡ Some written) }
 {
     let head = &packet.head;
     let ends = &passing.ends;

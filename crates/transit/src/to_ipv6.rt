@@ -14,7 +14,7 @@ ghost use Rattle.icmp_xlat.specs.Icmp46.{query46, with_message46};
 ghost use Rattle.icmp_messages.specs.Extension.{embedded46};
 ghost use Rattle.icmp_messages.specs.Rows.{HasNoRow46, EmbedsOne46};
 ghost use Rattle.packets.specs.Packet4.{IsPacket4};
-ghost use Rattle.transit.specs.Passage46.{is_message4, is_rigid4, error_packet46, translation46, AreCutOf, IsPassage46};
+ghost use Rattle.transit.specs.Passage46.{is_message4, is_rigid4, translation46, AreCutOf, IsPassage46};
 
 use crate::passage::Passage;
 use icmp_xlat::{Ends, Passing, error46, query46, with_message46};
@@ -57,7 +57,8 @@ fn translated(
 ) -> Result<Bytes, NoMemory>
     requires is { IsPacket4 packet.now octets.now }
     requires alive { 1 ≤ packet.now.head.ttl }
-    ensures { IfOk result (λ written. translation46 passing.now.mtus packet.now.head (payload_of4 packet.now.head octets.now) passing.now.ends packet.now.content ≡ Some written) }
+    ensures { IfOk result (λ written. translation46 passing.now.mtus packet.now.head
+        (payload_of4 packet.now.head octets.now) passing.now.ends packet.now.content ≡ Some written) }
 {
     let head = &packet.head;
     let ends = &passing.ends;
@@ -129,7 +130,8 @@ fn cut(
 ) -> Result<Parcels, NoMemory>
     requires is { IsPacket4 packet.now octets.now }
     requires alive { 1 ≤ packet.now.head.ttl }
-    requires written { translation46 passing.now.mtus packet.now.head (payload_of4 packet.now.head octets.now) passing.now.ends packet.now.content ≡ Some written.now }
+    requires written { translation46 passing.now.mtus packet.now.head
+        (payload_of4 packet.now.head octets.now) passing.now.ends packet.now.content ≡ Some written.now }
     requires no_message { is_message4 packet.now.content ≡ false }
     requires longer { passing.now.mtus.mtu6 < length written.now }
     ensures { IfOk result (AreCutOf written.now passing.now.mtus.mtu6 packet.now.head.id) }
@@ -152,7 +154,8 @@ pub fn passage46(
     octets: &[u8],
 ) -> Result<Passage, NoMemory>
     requires { IsPacket4 packet.now octets.now }
-    ensures { IfOk result (λ passage. IsPassage46 passing.now.mtus packet.now (payload_of4 packet.now.head octets.now) passing.now.ends passage) }
+    ensures { IfOk result (λ passage. IsPassage46 passing.now.mtus packet.now
+        (payload_of4 packet.now.head octets.now) passing.now.ends passage) }
 {
     if packet.head.ttl <= 1 {
         return Ok(Passage::Spent);

@@ -24,26 +24,37 @@ ghost use Rattle.turned_packets.specs.Turned.{turned_payload};
 /// A TCP or UDP sum that is right stays right, but for a UDP sum that is missing. It does so in a whole packet and in a
 /// first fragment, whose length is that of all fragments together.
 pub fn a_right_sum_stays_right_when_turned()
-    ensures { (new : TheNewEnd) (h : Header) (proto : AnyProto) (l4 : Transport) (payload : List ℕ) (len later : ℕ) → IsSegment4 h payload proto l4 → (proto ≡ Udp → word payload 6 ≢ 0) → PortsFit new l4.ports → len < 65536 → IsRightOver (pseudo_header4 h.src h.dst h.proto len) payload later → let there = with_address new.end new.addr h in IsRightOver (pseudo_header4 there.src there.dst h.proto len) (turned_segment new h proto l4 payload) later }
+    ensures { (new : TheNewEnd) (h : Header) (proto : AnyProto) (l4 : Transport) (payload : List ℕ) (len later : ℕ)
+        → IsSegment4 h payload proto l4 → (proto ≡ Udp → word payload 6 ≢ 0) → PortsFit new l4.ports → len < 65536
+        → IsRightOver (pseudo_header4 h.src h.dst h.proto len) payload later
+        → let there = with_address new.end new.addr h in IsRightOver (pseudo_header4 there.src there.dst h.proto len)
+            (turned_segment new h proto l4 payload) later }
 {}
 
 /// The sum of a turned ICMP message is right, whatever is in its body.
 pub fn a_turned_icmp_sum_is_right()
-    ensures query { (new : TheNewEnd) (h : Header) (payload : List ℕ) (m : Message) (row : TheRow) → IsRight (turned_payload new h payload (Query m row)) }
-    ensures error { (new : TheNewEnd) (h : Header) (payload : List ℕ) (m : Message) (row : TheRow) (inner : Inner) → IsRight (turned_payload new h payload (Error m row inner)) }
+    ensures query { (new : TheNewEnd) (h : Header) (payload : List ℕ) (m : Message) (row : TheRow)
+        → IsRight (turned_payload new h payload (Query m row)) }
+    ensures error { (new : TheNewEnd) (h : Header) (payload : List ℕ) (m : Message) (row : TheRow) (inner : Inner)
+        → IsRight (turned_payload new h payload (Error m row inner)) }
 {}
 
 /// Law: a transport sum of an embedded packet that is right stays right where the packet is turned: of TCP where it stands, of
 /// UDP where it isn't missing, and of an echo, but for one of which all is 0 that the sum covers. There 0 is written, where
 /// 65535 would be right. A missing sum stays missing.
 pub fn a_right_embedded_sum_stays_right_when_turned()
-    ensures right { (new : TheNewEnd) (inner : Inner) (octets : List ℕ) (later : ℕ) → IsInner4 inner octets → inner.head.total < 65536 → new.port < 65536 → HasSum inner.proto inner.payload → (IsZeroEcho new inner later → ⊥) → IsRightIn4 inner later → IsRightIn4 (turned_inner new inner) later }
-    ensures zero_echo { (new : TheNewEnd) (inner : Inner) (octets : List ℕ) (later : ℕ) → IsInner4 inner octets → IsZeroEcho new inner later → IsRightIn4 inner later → word (turned_inner new inner).payload 2 ≡ 0 }
-    ensures missing { (new : TheNewEnd) (inner : Inner) (octets : List ℕ) → IsInner4 inner octets → inner.proto ≡ Udp → word inner.payload 6 ≡ 0 → word (turned_inner new inner).payload 6 ≡ 0 }
+    ensures right { (new : TheNewEnd) (inner : Inner) (octets : List ℕ) (later : ℕ) → IsInner4 inner octets
+        → inner.head.total < 65536 → new.port < 65536 → HasSum inner.proto inner.payload
+        → (IsZeroEcho new inner later → ⊥) → IsRightIn4 inner later → IsRightIn4 (turned_inner new inner) later }
+    ensures zero_echo { (new : TheNewEnd) (inner : Inner) (octets : List ℕ) (later : ℕ) → IsInner4 inner octets
+        → IsZeroEcho new inner later → IsRightIn4 inner later → word (turned_inner new inner).payload 2 ≡ 0 }
+    ensures missing { (new : TheNewEnd) (inner : Inner) (octets : List ℕ) → IsInner4 inner octets → inner.proto ≡ Udp
+        → word inner.payload 6 ≡ 0 → word (turned_inner new inner).payload 6 ≡ 0 }
 {}
 
 /// Law: read again, the packet that a turned error embeds is the same with one end replaced: its address, its port, and the sums
 /// that cover them where they stand.
 pub fn a_turned_embedded_packet_is_read_again()
-    ensures { (new : TheNewEnd) (m : Message) (inner : Inner) → IsInner4 inner (embedded46 m) → new.addr.0 < 2 ^ 32 → new.port < 65536 → IsInner4 (turned_inner new inner) (embedded46 (with_embedded new m inner)) }
+    ensures { (new : TheNewEnd) (m : Message) (inner : Inner) → IsInner4 inner (embedded46 m) → new.addr.0 < 2 ^ 32
+        → new.port < 65536 → IsInner4 (turned_inner new inner) (embedded46 (with_embedded new m inner)) }
 {}

@@ -56,7 +56,8 @@ pub fn packet46(
     requires offset { head.now.offset < 8192 }
     requires carried { IsCarried4 (parts_of head.now segment.now) }
     requires read { segment.now.header ≡ header_at head.now.offset segment.now.proto segment.now.payload.now }
-    ensures { IfOk result (λ octets. octets ≡ packet46 (parts_of head.now segment.now) ends.now.src ends.now.dst (new_ports segment.now ends.now.ports)) }
+    ensures { IfOk result (λ octets. octets
+        ≡ packet46 (parts_of head.now segment.now) ends.now.src ends.now.dst (new_ports segment.now ends.now.ports)) }
 {
     let mut front = head46(head, ends.src, ends.dst).write(alloc, &[])?;
     match &segment.header {
@@ -79,7 +80,7 @@ fn header_in(head: &Head4, proto: Proto, payload: &[u8]) -> Option<L4>
     if head.offset != 0 {
         return None;
     }
-    Some(accepted_l4(proto, payload, !head.mf))
+    Some(accepted_l4(proto, payload))
 }
 
 /// The TCP or UDP packet of IPv4 in these octets, translated to IPv6 with these addresses and ports (RFC 7915,

@@ -40,7 +40,8 @@ pub fn packet64(
     requires offset { fragment_offset head.now.frag < 8192 }
     requires carried { IsCarried6 (parts_of head.now segment.now) }
     requires read { segment.now.header ≡ header_at (fragment_offset head.now.frag) segment.now.proto segment.now.payload.now }
-    ensures { IfOk result (λ octets. octets ≡ packet64 (parts_of head.now segment.now) ends.now.src ends.now.dst (new_ports segment.now ends.now.ports) id) }
+    ensures { IfOk result (λ octets. octets
+        ≡ packet64 (parts_of head.now segment.now) ends.now.src ends.now.dst (new_ports segment.now ends.now.ports) id) }
 {
     let mut front = head64(head, ends.src, ends.dst, id).write(alloc, &[])?;
     match &segment.header {
@@ -63,7 +64,7 @@ fn header_in(head: &Head6, proto: Proto, payload: &[u8]) -> Option<L4>
     if head.fragment_offset() != 0 {
         return None;
     }
-    Some(accepted_l4(proto, payload, !head.more_fragments()))
+    Some(accepted_l4(proto, payload))
 }
 
 /// The TCP or UDP packet of IPv6 in these octets, translated to IPv4 with these addresses and ports (RFC 7915,

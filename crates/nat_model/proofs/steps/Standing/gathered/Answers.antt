@@ -1,5 +1,7 @@
 use Rattle.std.proofs.Common.{sym, ◌∙◌, ap, subst, ◌≤◌}
+use Rattle.std.specs.Option.{option_map}
 use Rattle.rule_book.specs.Holder.{holder_in}
+use Rattle.frag_table.specs.Fragment.{frag_ask}
 use Rattle.frag_table.specs.State.{FragState}
 use Rattle.frag_table.specs.Frag.{frag}
 use Rattle.nat_model.specs.State.{generation_in, state_at}
@@ -15,15 +17,15 @@ returns-clause-gathered c =
     let bs = c.args.bindings.now.items in
     let t = c.args.notes.now in
     let ask = c.args.ask.now in
-    let f = c.in-Some.step in
+    let f = frag_ask c.in-Some.fragment in
     let step = frag t clock c.args.place f in
-    ap (λ o. gathered h (state_at book clock bs t.notes) c.args.place ask o) (sym c.in_ok-step.ensures ∙ c.in-Some.is)
+    ap (λ o. gathered h (state_at book clock bs t.notes) c.args.place ask o) (sym c.fragment_of.ensures ∙ ap (option_map frag_ask) c.in-Some.is)
     ∙ gathered-told h book clock bs c.args.place ask t f c.requires.notes
     ∙ ap (λ (after : FragState). told h (state_at book clock bs after.notes) ask step.answer) (sym c.in_ok-answer.ensures.after)
-    ∙ ap (λ answer. told h (state_at book clock bs c.step.new.self.notes) ask answer) (sym c.in_ok-answer.ensures.answer)
-    ∙ c.told.ensures c.step.new.self.notes
+    ∙ ap (λ answer. told h (state_at book clock bs c.take.new.self.notes) ask answer) (sym c.in_ok-answer.ensures.answer)
+    ∙ c.told.ensures c.take.new.self.notes
 
 pub returns-clause-clock : goal.returns-clause-clock
 returns-clause-clock c =
     let P : FragState → Type 0 = λ s. s.clock ≤ c.args.self.now.clock in
-    subst P (sym c.in_ok-answer.ensures.after) (frag-clock c.args.notes.now c.args.self.now.clock c.args.place c.in-Some.step c.requires.notes)
+    subst P (sym c.in_ok-answer.ensures.after) (frag-clock c.args.notes.now c.args.self.now.clock c.args.place (frag_ask c.in-Some.fragment) c.requires.notes)

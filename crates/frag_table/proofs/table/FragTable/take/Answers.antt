@@ -1,6 +1,6 @@
 use Rattle.std.proofs.Common.{ap}
 use Rattle.frag_table.specs.Frag.{FragStep, frag}
-use Rattle.frag_table.proofs.table.FragTable.step.Goals as goal
+use Rattle.frag_table.proofs.table.FragTable.take.Goals as goal
 
 pub returns-clause-answer : goal.returns-clause-answer
 unfolding frag
