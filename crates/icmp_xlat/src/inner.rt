@@ -10,6 +10,7 @@ use icmp_messages::{Inner4, Inner6};
 use inet_sum::adjust;
 use ip4_packet::Head4;
 use ip6_packet::Head6;
+use l4_headers::place::{ICMP_SUM_AT, IDENTIFIER_END, PORTS_END, TCP_SUM_AT, UDP_SUM_AT};
 use l4_headers::{
     L4, Ports, address_sum4, address_sum6, followed_by, followed_by_cut_tcp, pseudo_sum6,
     read_ports, readdressed_sum,
@@ -30,18 +31,6 @@ pub struct Change {
     pub ports: Ports,
     pub kind: u8,
 }
-
-/// Where the sum stands in the headers of TCP, UDP and ICMP.
-const TCP_SUM_AT: usize = 16;
-
-const UDP_SUM_AT: usize = 6;
-
-const ICMP_SUM_AT: usize = 2;
-
-/// Where the ports end, and the identifier of an echo.
-const PORTS_END: usize = 4;
-
-const IDENTIFIER_END: usize = 6;
 
 /// The ports and the sum at this place.
 fn standing(proto: Proto, payload: &[u8], sum_at: usize) -> L4

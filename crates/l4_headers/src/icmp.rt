@@ -3,15 +3,13 @@ ghost use Rattle.std.specs.Prelude.{◌≡◌, ◌<◌, ◌≤◌, ◌↔◌, Is
 ghost use Rattle.octets.specs.declared.proto.Proto.TheVariants.{Icmp};
 ghost use Rattle.l4_headers.specs.Transport.{l4_of, with_l4};
 
+use crate::place::{ICMP_SUM_AT, IDENTIFIER_AT};
 use crate::{L4, Ports};
 use byteorder::{BigEndian, ByteOrder};
 use octets::icmp_type::{ECHO_REPLY4, ECHO_REPLY6, ECHO_REQUEST4, ECHO_REQUEST6};
 
 const KIND: usize = 0;
 
-const SUM: usize = 2;
-
-const IDENTIFIER: usize = 4;
 /// The octets of the header.
 const HEADER: usize = 8;
 
@@ -30,7 +28,7 @@ pub fn ports(payload: &[u8]) -> Ports
     requires { HEADER ≤ length payload.now }
     ensures { result ≡ (l4_of Icmp payload.now).ports }
 {
-    let identifier = BigEndian::read_u16(&payload[IDENTIFIER..]);
+    let identifier = BigEndian::read_u16(&payload[IDENTIFIER_AT..]);
     Ports {
         src: identifier,
         dst: identifier,
@@ -44,7 +42,7 @@ pub fn read(payload: &[u8]) -> L4
 {
     L4 {
         ports: ports(payload),
-        sum: BigEndian::read_u16(&payload[SUM..]),
+        sum: BigEndian::read_u16(&payload[ICMP_SUM_AT..]),
         flags: 0,
     }
 }
@@ -55,7 +53,7 @@ pub fn set(payload: &mut [u8], ports: Ports, sum: u16)
     ensures { payload.new ≡ with_l4 Icmp payload.old ports sum }
 {
     if QUERIES.contains(&payload[KIND]) {
-        BigEndian::write_u16(&mut payload[IDENTIFIER..], ports.src);
+        BigEndian::write_u16(&mut payload[IDENTIFIER_AT..], ports.src);
     }
-    BigEndian::write_u16(&mut payload[SUM..], sum);
+    BigEndian::write_u16(&mut payload[ICMP_SUM_AT..], sum);
 }

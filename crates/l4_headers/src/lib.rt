@@ -9,6 +9,7 @@ ghost use Rattle.l4_headers.specs.Transport.{header_octets, IsBadTransport, l4_o
 mod ends;
 mod equal;
 mod icmp;
+pub mod place;
 mod ports;
 mod pseudo_header;
 mod readdress;

@@ -5,12 +5,10 @@ ghost use Rattle.octets.specs.Field.{word, part, in_word};
 ghost use Rattle.l4_headers.specs.Transport.{header_octets, with_l4};
 ghost use Rattle.l4_headers.specs.Readdressed.{as_written, port_words, readdressed_sum, computed_udp_sum};
 
-use crate::{L4, Ports, tcp, udp};
+use crate::place::{PORTS_END, TCP_SUM_AT, UDP_SUM_AT};
+use crate::{L4, Ports};
 use inet_sum::{adjust, as_udp, check_of, sum};
 use octets::{Bytes, NoMemory, Proto};
-
-/// Where the ports end, in both headers.
-const PORTS_END: usize = 4;
 
 /// A check sum as its protocol writes it: UDP has 65535 in the place of 0 (RFC 768).
 fn as_written(proto: Proto, sum: u16) -> u16
@@ -91,8 +89,8 @@ pub fn followed_by(
     ensures { IfOk result (λ octets. octets ≡ front ++ with_l4 proto payload.now ports sum) }
 {
     match proto {
-        Proto::Tcp => pieces(front, payload, tcp::SUM, ports, sum),
-        Proto::Udp => pieces(front, payload, udp::SUM, ports, sum),
+        Proto::Tcp => pieces(front, payload, TCP_SUM_AT, ports, sum),
+        Proto::Udp => pieces(front, payload, UDP_SUM_AT, ports, sum),
         Proto::Icmp => unreachable!(),
     }
 }
@@ -108,5 +106,5 @@ pub fn followed_by_cut_tcp(
     requires { 18 ≤ length segment.now }
     ensures { IfOk result (λ octets. octets ≡ front ++ with_l4 Tcp segment.now ports sum) }
 {
-    pieces(front, segment, tcp::SUM, ports, sum)
+    pieces(front, segment, TCP_SUM_AT, ports, sum)
 }

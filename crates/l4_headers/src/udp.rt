@@ -3,17 +3,12 @@ ghost use Rattle.std.specs.Prelude.{◌≡◌, ◌≤◌, ◌↔◌, IsTrue, len
 ghost use Rattle.octets.specs.declared.proto.Proto.TheVariants.{Udp};
 ghost use Rattle.l4_headers.specs.Transport.{IsBadTransport, l4_of, with_l4};
 
+use crate::place::{DESTINATION_PORT_AT, SOURCE_PORT_AT, UDP_SUM_AT};
 use crate::{L4, Ports};
 use byteorder::{BigEndian, ByteOrder};
 
-const SRC: usize = 0;
-
-const DST: usize = 2;
-
 const LENGTH: usize = 4;
 
-/// Where the sum stands.
-pub const SUM: usize = 6;
 /// The octets of the header.
 const HEADER: usize = 8;
 
@@ -33,8 +28,8 @@ pub fn ports(payload: &[u8]) -> Ports
     ensures { result ≡ (l4_of Udp payload.now).ports }
 {
     Ports {
-        src: BigEndian::read_u16(&payload[SRC..]),
-        dst: BigEndian::read_u16(&payload[DST..]),
+        src: BigEndian::read_u16(&payload[SOURCE_PORT_AT..]),
+        dst: BigEndian::read_u16(&payload[DESTINATION_PORT_AT..]),
     }
 }
 
@@ -45,7 +40,7 @@ pub fn read(payload: &[u8]) -> L4
 {
     L4 {
         ports: ports(payload),
-        sum: BigEndian::read_u16(&payload[SUM..]),
+        sum: BigEndian::read_u16(&payload[UDP_SUM_AT..]),
         flags: 0,
     }
 }
@@ -55,7 +50,7 @@ pub fn set(payload: &mut [u8], ports: Ports, sum: u16)
     requires { HEADER ≤ length payload.old }
     ensures { payload.new ≡ with_l4 Udp payload.old ports sum }
 {
-    BigEndian::write_u16(&mut payload[SRC..], ports.src);
-    BigEndian::write_u16(&mut payload[DST..], ports.dst);
-    BigEndian::write_u16(&mut payload[SUM..], sum);
+    BigEndian::write_u16(&mut payload[SOURCE_PORT_AT..], ports.src);
+    BigEndian::write_u16(&mut payload[DESTINATION_PORT_AT..], ports.dst);
+    BigEndian::write_u16(&mut payload[UDP_SUM_AT..], sum);
 }

@@ -9,11 +9,11 @@ use Rattle.octets.proofs.Places.{position-exactly, position-none}
 use Rattle.map_rules.specs.declared.dmr.Dmr.{Dmr}
 use Rattle.rule_book.proofs.LeastPlaces.{or-Some, map-Some}
 use Rattle.rule_book.proofs.Sound.{map-None}
-use Rattle.mapt_setup.specs.declared.edge.EdgeLine.{EdgeLine}
-use Rattle.mapt_setup.specs.declared.fault.SetupCause.{SetupCause}
-use Rattle.mapt_setup.specs.declared.fault.SetupCause.TheVariants.{EdgeName, EdgeOverlap, EdgeOverDmr}
-use Rattle.mapt_setup.specs.declared.fault.SetupFault.{SetupFault}
-use Rattle.mapt_setup.specs.declared.fault.SetupFault.TheVariants.{Refused}
+use Rattle.setup_tables.specs.declared.edge.EdgeLine.{EdgeLine}
+use Rattle.setup_tables.specs.declared.fault.SetupCause.{SetupCause}
+use Rattle.setup_tables.specs.declared.fault.SetupCause.TheVariants.{EdgeName, EdgeOverlap, EdgeOverDmr}
+use Rattle.setup_tables.specs.declared.fault.SetupFault.{SetupFault}
+use Rattle.setup_tables.specs.declared.fault.SetupFault.TheVariants.{Refused}
 use Rattle.mapt_setup.specs.Beside.{first_after, IsFirstBeside}
 use Rattle.mapt_setup.specs.Crowd.{has_name_of, is_crowded, is_over, edge_fault, AreApart}
 use Rattle.mapt_setup.proofs.FirstBeside.{first-is, none-is, is-none, element-at}

@@ -17,25 +17,25 @@ use Rattle.rule_book.specs.declared.change.Change.{Change}
 use Rattle.rule_book.specs.declared.change.Change.TheVariants as change
 use Rattle.rule_book.specs.Change.{rules_after, change_refusal}
 use Rattle.rule_book.proofs.Sound.{map-None}
-use Rattle.mapt_setup.specs.declared.rule.RuleLine.{RuleLine}
-use Rattle.mapt_setup.specs.declared.change.Action.{Action}
-use Rattle.mapt_setup.specs.declared.change.Action.TheVariants as action
-use Rattle.mapt_setup.specs.declared.change.ChangeText.{ChangeText}
+use Rattle.setup_tables.specs.declared.rule.RuleLine.{RuleLine}
+use Rattle.setup_tables.specs.declared.change.Action.{Action}
+use Rattle.setup_tables.specs.declared.change.Action.TheVariants as action
+use Rattle.setup_tables.specs.declared.change.ChangeText.{ChangeText}
 use Rattle.mapt_setup.specs.declared.moves.MoveLine.{MoveLine}
-use Rattle.mapt_setup.specs.declared.fault.SetupCause.TheVariants.{ChangeOrder, ChangeRefused}
-use Rattle.mapt_setup.specs.declared.fault.SetupFault.{SetupFault}
-use Rattle.mapt_setup.specs.declared.fault.SetupFault.TheVariants.{Refused, NoMemory}
-use Rattle.mapt_setup.specs.Answer.{HasNone, Gives, exactly}
+use Rattle.setup_tables.specs.declared.fault.SetupCause.TheVariants.{ChangeOrder, ChangeRefused}
+use Rattle.setup_tables.specs.declared.fault.SetupFault.{SetupFault}
+use Rattle.setup_tables.specs.declared.fault.SetupFault.TheVariants.{Refused, NoMemory}
+use Rattle.setup_tables.specs.Answer.{HasNone, Gives, exactly}
 use Rattle.mapt_setup.specs.Beside.{first_after}
-use Rattle.mapt_setup.specs.Change.{most_at}
+use Rattle.setup_tables.specs.Change.{most_at}
 use Rattle.mapt_setup.specs.Generation.{rules_after_all}
 use Rattle.mapt_setup.specs.Moves.{is_early, order_fault, HasChange, IsMove, moves_from}
 use Rattle.mapt_setup.specs.Shapes.{HasParts}
 use Rattle.mapt_setup.specs.Valid.{AreAccepted, AreValidChanges}
 use Rattle.mapt_setup.proofs.FirstBeside.{none-is, element-at}
-use Rattle.mapt_setup.proofs.ListReads.{length-AllZip}
-use Rattle.mapt_setup.proofs.Stages.{same_of}
-use Rattle.mapt_setup.proofs.ValidForwards.{all_given}
+use Rattle.setup_tables.proofs.ListReads.{length-AllZip}
+use Rattle.setup_tables.proofs.Stages.{same_of}
+use Rattle.setup_tables.proofs.ListReads.{all_given}
 
 -- the answer with these changes before it
 abbrev pub after : List MoveLine → Result (List MoveLine) SetupFault → Result (List MoveLine) SetupFault

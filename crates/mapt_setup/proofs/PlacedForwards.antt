@@ -1,8 +1,8 @@
 -- Forwards at the edges that they name.
 use Rattle.std.proofs.Common.{◌≡◌, List, None, sym, ◌∙◌}
 use Rattle.std.proofs.lemmas.Option.{none-some}
-use Rattle.mapt_setup.specs.declared.edge.EdgeLine.{EdgeLine}
-use Rattle.mapt_setup.specs.declared.forward.ForwardText.{ForwardText}
+use Rattle.setup_tables.specs.declared.edge.EdgeLine.{EdgeLine}
+use Rattle.setup_tables.specs.declared.forward.ForwardText.{ForwardText}
 use Rattle.mapt_setup.specs.declared.forward.ForwardLine.{ForwardLine}
 use Rattle.mapt_setup.specs.Claims.{IsAtEdge, edge_place}
 

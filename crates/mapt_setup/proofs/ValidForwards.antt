@@ -1,5 +1,5 @@
 -- The forwards that are set up are valid.
-use Rattle.std.proofs.Common.{◌≡◌, ℕ, zero, suc, ◌<◌, ◌≤◌, Bool, true, false, List, [], ◌∷◌, length, get_or, take, refl, sym, ap, subst, arith, None, ◌⊎◌}
+use Rattle.std.proofs.Common.{◌≡◌, ℕ, zero, suc, ◌<◌, ◌≤◌, Bool, true, false, List, [], ◌∷◌, length, get_or, take, refl, sym, ap, subst, arith, None}
 use Rattle.std.specs.Prelude.{not, nat_eq, ◌||◌, IsTrue}
 use Rattle.std.specs.List.{All, AllPairs, AllZip, list_any, position}
 use Rattle.std.proofs.lemmas.Bool.{eq-eqb}
@@ -9,43 +9,27 @@ use Rattle.octets.specs.declared.proto.Proto.{Proto}
 use Rattle.octets.specs.declared.proto.Proto.TheVariants.{Tcp, Udp, Icmp}
 use Rattle.map_rules.specs.declared.rule.Rule.{Rule}
 use Rattle.rule_book.proofs.Sound.{map-None}
-use Rattle.nat_model.specs.declared.binding.Binding.{Binding}
 use Rattle.nat_model.specs.Binding.{same_proto}
 use Rattle.nat_model.specs.Sound.{AreApart}
-use Rattle.mapt_setup.specs.declared.edge.EdgeLine.{EdgeLine}
-use Rattle.mapt_setup.specs.declared.forward.ForwardText.{ForwardText}
+use Rattle.setup_tables.specs.declared.edge.EdgeLine.{EdgeLine}
+use Rattle.setup_tables.specs.declared.forward.ForwardText.{ForwardText}
 use Rattle.mapt_setup.specs.declared.forward.ForwardLine.{ForwardLine}
 use Rattle.mapt_setup.specs.Beside.{first_after}
-use Rattle.mapt_setup.specs.Forward.{most_until, never}
+use Rattle.setup_tables.specs.Forward.{never}
 use Rattle.mapt_setup.specs.Claims.{IsAtEdge, holder_of_edge, may_claim, is_unclaimable, collides, is_taken, forward_fault}
 use Rattle.mapt_setup.specs.Valid.{AreValidForwards}
-use Rattle.mapt_setup.specs.declared.fault.SetupCause.TheVariants.{ForwardPort, ForwardTwice}
-use Rattle.mapt_setup.specs.declared.fault.SetupFault.TheVariants.{Refused}
+use Rattle.setup_tables.specs.declared.fault.SetupCause.TheVariants.{ForwardPort, ForwardTwice}
+use Rattle.setup_tables.specs.declared.fault.SetupFault.TheVariants.{Refused}
 use Rattle.mapt_setup.proofs.FirstBeside.{none-is}
 use Rattle.mapt_setup.proofs.FirstEdges.{both_none}
-
--- what holds of each element holds of what each gives
-pub all_given : {D A : Type 0} (P : D → Type 0) (R : D → A → Type 0) (Q : A → Type 0) → ((d : D) (x : A) → P d → R d x → Q x) → (ds : List D) (xs : List A) → All P ds → AllZip R ds xs → All Q xs
-all_given P R Q gives [] [] all zip k e within = absurd (omega arith)
-all_given P R Q gives [] (x ∷ xs) all zip k e within = absurd zip
-all_given P R Q gives (d ∷ ds) [] all zip k e within = absurd zip
-all_given P R Q gives (d ∷ ds) (x ∷ xs) all zip zero e within = gives d x (all 0 d (omega arith)) zip.0
-all_given P R Q gives (d ∷ ds) (x ∷ xs) all zip (suc k) e within = all_given P R Q gives ds xs (λ j f below. all (suc j) f (omega arith)) zip.1 k e (omega arith)
-
-pub all_read : {D A : Type 0} (R : D → A → Type 0) (Q : A → Type 0) → ((d : D) (x : A) → R d x → Q x) → (ds : List D) (xs : List A) → AllZip R ds xs → All Q xs
-all_read R Q gives ds xs zip = all_given (λ d. Unit {0}) R Q (λ d x _ r. gives d x r) ds xs (λ k d within. tt) zip
+use Rattle.setup_tables.proofs.ListReads.{all_given}
+use Rattle.setup_tables.proofs.TablesInRange.{IsKept}
 
 -- ---- each forward
 
 not_false : (b : Bool) → not b ≡ false → b ≡ true
 not_false true e = refl
 not_false false e = cc
-
--- what a text says of its binding
-pub record IsKept (b : Binding) : Type 0 where
-  pub kept : b.kept ≡ true
-  pub live : b.live ≡ false
-  pub deadline : (b.deadline ≤ most_until) ⊎ (b.deadline ≡ never)
 
 kept_placed : (edges : List EdgeLine) (text : ForwardText) (forward : ForwardLine) → IsKept text.binding → IsAtEdge edges text forward → IsKept forward.binding × (forward.edge < length edges)
 kept_placed edges text forward kept is =

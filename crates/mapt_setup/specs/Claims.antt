@@ -8,13 +8,13 @@ use Rattle.rule_book.specs.Holder.{Holder, holder_of}
 use Rattle.nat_model.specs.declared.ask.End4.{End4}
 use Rattle.nat_model.specs.declared.binding.Binding.{Binding}
 use Rattle.nat_model.specs.Binding.{is_of_host, is_of_port, is_claimable_by}
-use Rattle.mapt_setup.specs.declared.edge.EdgeLine.{EdgeLine}
-use Rattle.mapt_setup.specs.declared.forward.ForwardText.{ForwardText}
+use Rattle.setup_tables.specs.declared.edge.EdgeLine.{EdgeLine}
+use Rattle.setup_tables.specs.declared.forward.ForwardText.{ForwardText}
 use Rattle.mapt_setup.specs.declared.forward.ForwardLine.{ForwardLine}
-use Rattle.mapt_setup.specs.declared.fault.SetupCause.TheVariants.{ForwardEdge, ForwardPort, ForwardTwice}
-use Rattle.mapt_setup.specs.declared.fault.SetupFault.{SetupFault}
-use Rattle.mapt_setup.specs.declared.fault.SetupFault.TheVariants.{Refused}
-use Rattle.mapt_setup.specs.Answer.{◌>>=◌, each, HasNone, barring, exactly}
+use Rattle.setup_tables.specs.declared.fault.SetupCause.TheVariants.{ForwardEdge, ForwardPort, ForwardTwice}
+use Rattle.setup_tables.specs.declared.fault.SetupFault.{SetupFault}
+use Rattle.setup_tables.specs.declared.fault.SetupFault.TheVariants.{Refused}
+use Rattle.setup_tables.specs.Answer.{◌>>=◌, each, HasNone, barring, exactly}
 use Rattle.mapt_setup.specs.Beside.{first_after}
 
 -- the place of the edge with this name

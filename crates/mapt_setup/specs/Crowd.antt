@@ -5,10 +5,10 @@ use Rattle.std.specs.List.{All, list_any, position}
 use Rattle.std.specs.Cmp.Lexicographic.{pointwise}
 use Rattle.map_rules.specs.declared.dmr.Dmr.{Dmr}
 use Rattle.rule_book.specs.Overlap.{overlaps6}
-use Rattle.mapt_setup.specs.declared.edge.EdgeLine.{EdgeLine}
-use Rattle.mapt_setup.specs.declared.fault.SetupCause.TheVariants.{EdgeName, EdgeOverlap, EdgeOverDmr}
-use Rattle.mapt_setup.specs.declared.fault.SetupFault.{SetupFault}
-use Rattle.mapt_setup.specs.declared.fault.SetupFault.TheVariants.{Refused}
+use Rattle.setup_tables.specs.declared.edge.EdgeLine.{EdgeLine}
+use Rattle.setup_tables.specs.declared.fault.SetupCause.TheVariants.{EdgeName, EdgeOverlap, EdgeOverDmr}
+use Rattle.setup_tables.specs.declared.fault.SetupFault.{SetupFault}
+use Rattle.setup_tables.specs.declared.fault.SetupFault.TheVariants.{Refused}
 use Rattle.mapt_setup.specs.Beside.{first_after, FailsBefore}
 
 -- an earlier edge has its name

@@ -7,10 +7,10 @@ use Rattle.rule_book.specs.Book.{rules_of, dmr_of, generation_of}
 use Rattle.rule_book.specs.Change.{rules_after}
 use Rattle.mapt_setup.specs.declared.moves.MoveLine.{MoveLine}
 use Rattle.mapt_setup.specs.declared.setup.Setup.{Setup}
-use Rattle.mapt_setup.specs.declared.fault.SetupCause.TheVariants.{NoGeneration}
-use Rattle.mapt_setup.specs.declared.fault.SetupFault.{SetupFault}
-use Rattle.mapt_setup.specs.declared.fault.SetupFault.TheVariants.{Refused}
-use Rattle.mapt_setup.specs.Answer.{such, exactly}
+use Rattle.setup_tables.specs.declared.fault.SetupCause.TheVariants.{NoGeneration}
+use Rattle.setup_tables.specs.declared.fault.SetupFault.{SetupFault}
+use Rattle.setup_tables.specs.declared.fault.SetupFault.TheVariants.{Refused}
+use Rattle.setup_tables.specs.Answer.{such, exactly}
 
 -- rules after changes, one after the other
 abbrev pub rules_after_all : List MoveLine → List Rule → List Rule

@@ -6,14 +6,14 @@ use Rattle.map_rules.specs.declared.dmr.Dmr.{Dmr}
 use Rattle.rule_book.specs.declared.change.Change.{Change}
 use Rattle.rule_book.specs.declared.change.Change.TheVariants as change
 use Rattle.rule_book.specs.Change.{rules_after, change_refusal}
-use Rattle.mapt_setup.specs.declared.change.Action.{Action}
-use Rattle.mapt_setup.specs.declared.change.Action.TheVariants as action
-use Rattle.mapt_setup.specs.declared.change.ChangeText.{ChangeText}
+use Rattle.setup_tables.specs.declared.change.Action.{Action}
+use Rattle.setup_tables.specs.declared.change.Action.TheVariants as action
+use Rattle.setup_tables.specs.declared.change.ChangeText.{ChangeText}
 use Rattle.mapt_setup.specs.declared.moves.MoveLine.{MoveLine}
-use Rattle.mapt_setup.specs.declared.fault.SetupCause.TheVariants.{ChangeOrder, ChangeRefused}
-use Rattle.mapt_setup.specs.declared.fault.SetupFault.{SetupFault}
-use Rattle.mapt_setup.specs.declared.fault.SetupFault.TheVariants.{Refused}
-use Rattle.mapt_setup.specs.Answer.{◌>>=◌, the, barring, exactly}
+use Rattle.setup_tables.specs.declared.fault.SetupCause.TheVariants.{ChangeOrder, ChangeRefused}
+use Rattle.setup_tables.specs.declared.fault.SetupFault.{SetupFault}
+use Rattle.setup_tables.specs.declared.fault.SetupFault.TheVariants.{Refused}
+use Rattle.setup_tables.specs.Answer.{◌>>=◌, the, barring, exactly}
 use Rattle.mapt_setup.specs.Beside.{first_after}
 use Rattle.mapt_setup.specs.Shapes.{HasParts}
 

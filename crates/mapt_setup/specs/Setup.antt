@@ -1,18 +1,16 @@
 -- What the octets of a configuration set up, or why they are refused: the stages in the order in which
 -- their causes are tested.
 use Rattle.std.specs.Prelude.{ℕ, List, Result, Ok}
-use Rattle.toml.specs.Data.{Members}
 use Rattle.rule_book.specs.declared.book.Book.{Book}
 use Rattle.rule_book.specs.Book.{rules_of, dmr_of}
-use Rattle.mapt_setup.specs.declared.origin.Given.{Given}
-use Rattle.mapt_setup.specs.declared.tables.Tables.{Tables}
+use Rattle.setup_tables.specs.declared.origin.Given.{Given}
+use Rattle.setup_tables.specs.declared.tables.Tables.{Tables}
 use Rattle.mapt_setup.specs.declared.setup.Setup.{Setup}
-use Rattle.mapt_setup.specs.declared.fault.SetupCause.TheVariants.{NotToml, RuleShape}
-use Rattle.mapt_setup.specs.declared.fault.SetupFault.{SetupFault}
-use Rattle.mapt_setup.specs.declared.fault.SetupFault.TheVariants.{Refused}
-use Rattle.mapt_setup.specs.Answer.{◌>>=◌, the, each, barring, exactly}
-use Rattle.mapt_setup.specs.Origin.{given_by}
-use Rattle.mapt_setup.specs.Tables.{IsDocument, early_fault, tables_of}
+use Rattle.setup_tables.specs.declared.fault.SetupCause.TheVariants.{RuleShape}
+use Rattle.setup_tables.specs.declared.fault.SetupFault.{SetupFault}
+use Rattle.setup_tables.specs.Answer.{◌>>=◌, each, barring, exactly}
+use Rattle.setup_tables.specs.Origin.{given_by}
+use Rattle.setup_tables.specs.Tables.{octets_tables}
 use Rattle.mapt_setup.specs.Shapes.{HasParts, BreaksShape, book_of}
 use Rattle.mapt_setup.specs.Crowd.{edge_fault}
 use Rattle.mapt_setup.specs.Claims.{forwards_of}
@@ -42,14 +40,8 @@ tables_setup tables = do
     changes = changes;
   }))
 
--- what a document sets up
-unfoldable pub document_setup : Members → Result Setup SetupFault → Type 0
-document_setup document = do
-  tables ← tables_of document
-  tables_setup tables
-
 -- what octets set up
 unfoldable pub setup_of : List ℕ → Result Setup SetupFault → Type 0
 setup_of octets = do
-  document ← the (IsDocument octets) (Refused NotToml 0)
-  barring (early_fault document) (document_setup document)
+  tables ← octets_tables octets
+  tables_setup tables

@@ -8,11 +8,11 @@ use Rattle.rule_book.specs.declared.fault.BookFault.{BookFault}
 use Rattle.rule_book.specs.declared.fault.BookFault.TheVariants as book
 use Rattle.rule_book.specs.Book.{rules_of, dmr_of, generation_of}
 use Rattle.rule_book.specs.Refusal.{refusal_of}
-use Rattle.mapt_setup.specs.declared.rule.RuleLine.{RuleLine}
-use Rattle.mapt_setup.specs.declared.fault.SetupCause.TheVariants.{TooMany, Overlap4, Overlap6, OverlapDmr}
-use Rattle.mapt_setup.specs.declared.fault.SetupFault.{SetupFault}
-use Rattle.mapt_setup.specs.declared.fault.SetupFault.TheVariants.{Refused, NoMemory}
-use Rattle.mapt_setup.specs.Answer.{barring, such}
+use Rattle.setup_tables.specs.declared.rule.RuleLine.{RuleLine}
+use Rattle.setup_tables.specs.declared.fault.SetupCause.TheVariants.{TooMany, Overlap4, Overlap6, OverlapDmr}
+use Rattle.setup_tables.specs.declared.fault.SetupFault.{SetupFault}
+use Rattle.setup_tables.specs.declared.fault.SetupFault.TheVariants.{Refused, NoMemory}
+use Rattle.setup_tables.specs.Answer.{barring, such}
 
 -- the line breaks a shape rule
 abbrev pub BreaksShape : RuleLine → Type 0

@@ -9,14 +9,14 @@ use Rattle.map_rules.specs.declared.dmr.Dmr.{Dmr}
 use Rattle.rule_book.specs.Book.{rules_of, dmr_of, generation_of}
 use Rattle.rule_book.specs.Change.{rules_after, change_refusal}
 use Rattle.nat_model.specs.Sound.{AreApart as AreApartBindings}
-use Rattle.mapt_setup.specs.declared.edge.EdgeLine.{EdgeLine}
+use Rattle.setup_tables.specs.declared.edge.EdgeLine.{EdgeLine}
 use Rattle.mapt_setup.specs.declared.forward.ForwardLine.{ForwardLine}
 use Rattle.mapt_setup.specs.declared.moves.MoveLine.{MoveLine}
 use Rattle.mapt_setup.specs.declared.setup.Setup.{Setup}
-use Rattle.mapt_setup.specs.EdgeName.{is_edge_name}
+use Rattle.setup_tables.specs.EdgeName.{is_edge_name}
 use Rattle.mapt_setup.specs.Crowd.{AreApart}
-use Rattle.mapt_setup.specs.Forward.{most_until, never}
-use Rattle.mapt_setup.specs.Change.{most_at}
+use Rattle.setup_tables.specs.Forward.{most_until, never}
+use Rattle.setup_tables.specs.Change.{most_at}
 use Rattle.mapt_setup.specs.Claims.{holder_of_edge, may_claim}
 
 -- at most 256 edges, each with a name of its own, whose prefixes have at most 64 bits and overlap neither one

@@ -3,14 +3,13 @@
 ghost use Rattle.std.specs.Prelude.{◌≡◌, ◌<◌, ◌≤◌, length, IfSome, IfOk};
 ghost use Rattle.std.specs.List.{position};
 ghost use Rattle.rule_book.specs.Book.{rules_of};
-ghost use Rattle.mapt_setup.specs.Answer.{Gives, HasNone, each};
+ghost use Rattle.setup_tables.specs.Answer.{Gives, HasNone, each};
 ghost use Rattle.mapt_setup.specs.Beside.{first_after};
 ghost use Rattle.mapt_setup.specs.Claims.{edge_place, IsAtEdge, is_unclaimable, collides, is_taken, forward_fault, forwards_of};
 
-use crate::edge::EdgeLine;
-use crate::forward::{ForwardLine, ForwardText, Forwards};
-use crate::{SetupCause, SetupFault};
+use crate::forward::{ForwardLine, Forwards};
 use rule_book::{Book, RuleView};
+use setup_tables::{EdgeLine, ForwardText, SetupCause, SetupFault};
 use std::alloc::Global;
 
 /// The place of the edge with this name.
@@ -26,7 +25,7 @@ fn placed(alloc: Global, edges: &[EdgeLine], texts: &[ForwardText]) -> Result<Fo
     requires edges { length edges.now ≤ 256 }
     requires texts { length texts.now ≤ 256 }
     ensures few { IfOk result (λ forwards. length forwards ≤ 256) }
-    ensures exact { Gives (λ forwards. forwards) result (each SetupCause.ForwardEdge (IsAtEdge edges.now) (HasNone (IsAtEdge edges.now)) texts.now) }
+    ensures exact { Gives (λ f. f) result (each SetupCause.ForwardEdge (IsAtEdge edges.now) (HasNone (IsAtEdge edges.now)) texts.now) }
 {
     let mut forwards = Forwards::new(alloc);
     for (i, text) in texts.iter().enumerate() {

@@ -6,10 +6,9 @@ ghost use Rattle.rule_book.specs.Overlap.{overlaps6};
 ghost use Rattle.mapt_setup.specs.Beside.{first_after};
 ghost use Rattle.mapt_setup.specs.Crowd.{has_name_of, is_crowded, is_over, edge_fault};
 
-use crate::edge::EdgeLine;
-use crate::{SetupCause, SetupFault};
 use map_rules::Dmr;
 use octets::Prefix6;
+use setup_tables::{EdgeLine, SetupCause, SetupFault};
 
 /// The longest prefix of an edge.
 const MOST_PREFIX: u8 = 64;

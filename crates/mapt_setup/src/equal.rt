@@ -1,13 +1,14 @@
-//! `==` of the types of this crate. The law is the contract of a function that does nothing.
+//! `==` of the types that a setup is told in. The law is the contract of a function that does nothing.
 
 ghost use Rattle.std.specs.Prelude.{◌≡◌, ◌↔◌, IsTrue};
 ghost use Rattle.mapt_setup.specs.declared.capture.Side.{Side as SideType};
-ghost use Rattle.mapt_setup.specs.declared.fault.SetupCause.{SetupCause as CauseType};
-ghost use Rattle.mapt_setup.specs.declared.fault.SetupFault.{SetupFault as FaultType};
+ghost use Rattle.setup_tables.specs.declared.fault.SetupCause.{SetupCause as CauseType};
+ghost use Rattle.setup_tables.specs.declared.fault.SetupFault.{SetupFault as FaultType};
 ghost use Rattle.mapt_setup.specs.declared.forward.ForwardLine.{ForwardLine as ForwardType};
 ghost use Rattle.mapt_setup.specs.declared.moves.MoveLine.{MoveLine as MoveType};
 
-use crate::{ForwardLine, MoveLine, SetupCause, SetupFault, Side};
+use crate::{ForwardLine, MoveLine, Side};
+use setup_tables::{SetupCause, SetupFault};
 
 /// Law: two sides, causes, faults, forwards or changes are `==` exactly where they are the same.
 pub fn equal_values_are_the_same()
@@ -18,4 +19,5 @@ pub fn equal_values_are_the_same()
     ensures change { (one other : MoveType) → IsTrue (⟦<MoveLine as PartialEq>⟧.eq one other) ↔ (one ≡ other) }
 {
     rule_book::equal_values_are_the_same();
+    setup_tables::equal_values_are_the_same();
 }

@@ -5,13 +5,13 @@ ghost use Rattle.std.specs.Prelude.{◌≡◌, ◌↔◌, ◌+◌, ℕ, List, le
 ghost use Rattle.std.specs.List.{filter, flat_map, count_by};
 ghost use Rattle.octets.specs.Place.{IsFirstPlace};
 ghost use Rattle.map_rules.specs.declared.dmr.Dmr.{Dmr as DmrType};
-ghost use Rattle.mapt_setup.specs.declared.edge.EdgeLine.{EdgeLine as EdgeType};
-ghost use Rattle.mapt_setup.specs.declared.fault.SetupCause.TheVariants.{EdgeName, EdgeOverlap, EdgeOverDmr};
-ghost use Rattle.mapt_setup.specs.declared.fault.SetupFault.TheVariants.{Refused};
+ghost use Rattle.setup_tables.specs.declared.edge.EdgeLine.{EdgeLine as EdgeType};
+ghost use Rattle.setup_tables.specs.declared.fault.SetupCause.TheVariants.{EdgeName, EdgeOverlap, EdgeOverDmr};
+ghost use Rattle.setup_tables.specs.declared.fault.SetupFault.TheVariants.{Refused};
 ghost use Rattle.mapt_setup.specs.Crowd.{has_name_of, is_crowded, is_over, edge_fault, AreApart};
 ghost use Rattle.mapt_setup.specs.Beside.{IsFirstBeside};
 ghost use Rattle.mapt_setup.specs.declared.setup.Setup.{Setup as SetupType};
-ghost use Rattle.mapt_setup.specs.declared.fault.SetupFault.{SetupFault as SetupFaultType};
+ghost use Rattle.setup_tables.specs.declared.fault.SetupFault.{SetupFault as SetupFaultType};
 ghost use Rattle.mapt_setup.specs.Setup.{setup_of};
 ghost use Rattle.mapt_setup.specs.declared.capture.Capture.{Capture as CaptureType};
 ghost use Rattle.mapt_setup.specs.declared.moves.MoveLine.{MoveLine as MoveType};

@@ -2,32 +2,19 @@
 #![tactic(auto)]
 
 mod capture;
-mod change;
 mod claims;
 mod crowd;
-mod domain;
-mod edge;
-mod edge_name;
 mod equal;
-mod fault;
 mod forward;
 mod items;
-mod keys;
 mod laws;
 mod moves;
-mod origin;
-mod rule;
 mod script;
-mod sentence;
 mod setup;
 mod shapes;
-mod spelled;
-mod tables;
 
 pub use capture::{Capture, Side, captures_fit};
-pub use edge::{EdgeLine, Edges};
 pub use equal::equal_values_are_the_same;
-pub use fault::{SetupCause, SetupFault};
 pub use forward::{ForwardLine, Forwards};
 pub use laws::{
     a_script_is_one, octets_have_at_most_one_answer, refused_edges_are_the_first,
@@ -36,3 +23,4 @@ pub use laws::{
 pub use moves::{Changes, MoveLine};
 pub use script::{Script, ScriptItem};
 pub use setup::Setup;
+pub use setup_tables::{EdgeLine, Edges, SetupCause, SetupFault};

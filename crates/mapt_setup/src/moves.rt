@@ -1,19 +1,17 @@
-ghost use Rattle.std.specs.Prelude.{◌≡◌, ◌<◌, ◌≤◌, ◌+◌, ◌-◌, ◌^◌, ◌++◌, ◌∷◌, ◌⊎◌, [], None, IsSome, length, IfSome, IfNone, IfOk, IfErr, OnOk, OnErr};
+ghost use Rattle.std.specs.Prelude.{◌≡◌, ◌<◌, ◌≤◌, ◌+◌, ◌-◌, ◌^◌, ◌⊎◌, None, IsSome, length, IfSome, IfNone, IfOk, IfErr, OnOk, OnErr};
 ghost use Rattle.rule_book.specs.Book.{rules_of, dmr_of, generation_of};
 ghost use Rattle.rule_book.specs.Change.{rules_after, change_refusal};
-ghost use Rattle.mapt_setup.specs.Answer.{Gives, HasNone};
+ghost use Rattle.setup_tables.specs.Answer.{Gives, HasNone};
 ghost use Rattle.mapt_setup.specs.Beside.{first_after};
 ghost use Rattle.mapt_setup.specs.Generation.{rules_after_all};
 ghost use Rattle.mapt_setup.specs.Valid.{AreAccepted};
 ghost use Rattle.mapt_setup.specs.Moves.{is_early, order_fault, HasChange, moves_from, changes_of};
 
-use crate::change::{Action, ChangeText};
 use crate::shapes::rule_of;
-use crate::{SetupCause, SetupFault};
-use octets::NoMemory;
+use octets::List;
 use rule_book::{Book, BookFault, Change};
+use setup_tables::{Action, ChangeText, SetupCause, SetupFault};
 use std::alloc::Global;
-use std::marker::Model;
 
 /// A change of the rules in a configuration.
 #[derive(Clone, Copy, Debug, PartialEq, Eq)]
@@ -25,47 +23,8 @@ pub struct MoveLine {
     pub change: Change,
 }
 
-/// Changes in their order. A contract sees the list of them.
-#[derive(Debug, Drop)]
-pub struct Changes {
-    changes: Vec<MoveLine>,
-}
-
-impl Model for Changes {
-    ghost use Rattle.std.specs.Prelude.{List};
-    ghost use Rattle.mapt_setup.specs.declared.moves.MoveLine.{MoveLine as MoveLineType};
-
-    ghost Value = { List MoveLineType };
-
-    ghost view = { λ c. c.changes.items };
-}
-
-impl Changes {
-    /// No changes.
-    pub fn new(alloc: Global) -> Changes
-        ensures { result ≡ [] }
-    {
-        Changes {
-            changes: Vec::new(alloc),
-        }
-    }
-
-    /// Adds a change at the end.
-    pub fn push(&mut self, change: MoveLine) -> Result<(), NoMemory>
-        ensures ok { OnOk result (self.new ≡ self.old ++ change ∷ []) }
-        ensures err { OnErr result (self.new ≡ self.old) }
-    {
-        self.changes.push(change)?;
-        Ok(())
-    }
-
-    /// The changes.
-    pub fn as_slice(&self) -> &[MoveLine]
-        ensures { result.now ≡ self.now }
-    {
-        &self.changes
-    }
-}
+/// Changes in their order.
+pub type Changes = List<MoveLine>;
 
 /// Whether a change comes before the one that is listed before it.
 fn is_early(earlier: &[ChangeText], text: &ChangeText) -> bool
@@ -115,7 +74,9 @@ fn change_of(action: &Action) -> Option<Change>
 fn book_after(alloc: Global, book: &Book, change: &Change, place: u32) -> Result<Book, SetupFault>
     requires { generation_of book.now < 2 ^ 32 - 1 }
     ensures accepted { OnOk result (change_refusal change.now (rules_of book.now) (dmr_of book.now) ≡ None) }
-    ensures refused { IfErr result (λ e. (e ≡ SetupFault.NoMemory) ⊎ ((e ≡ SetupFault.Refused SetupCause.ChangeRefused place) × IsSome (change_refusal change.now (rules_of book.now) (dmr_of book.now)))) }
+    ensures refused { IfErr result (λ e. (e ≡ SetupFault.NoMemory)
+        ⊎ ((e ≡ SetupFault.Refused SetupCause.ChangeRefused place)
+        × IsSome (change_refusal change.now (rules_of book.now) (dmr_of book.now)))) }
     ensures rules { IfOk result (λ after. rules_of after ≡ rules_after change.now (rules_of book.now)) }
     ensures dmr { IfOk result (λ after. dmr_of after ≡ dmr_of book.now) }
     ensures generation { IfOk result (λ after. generation_of after ≡ generation_of book.now + 1) }

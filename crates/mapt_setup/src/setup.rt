@@ -1,20 +1,15 @@
-ghost use Rattle.std.specs.Prelude.{◌≡◌, false, IfOk};
-ghost use Rattle.toml.specs.View.{table_view};
-ghost use Rattle.mapt_setup.specs.Answer.{Gives};
+ghost use Rattle.std.specs.Prelude.{IfOk};
+ghost use Rattle.setup_tables.specs.Answer.{Gives};
 
 use crate::claims::forwards_of;
 use crate::crowd::edge_fault;
-use crate::domain::Domain;
-use crate::edge::Edges;
 use crate::forward::Forwards;
 use crate::moves::{Changes, book_after_all, changes_of};
 use crate::shapes::first_book;
-use crate::tables::{Tables, document, has_too_many};
-use crate::{SetupCause, SetupFault};
 use octets::{Addr4, Mtus, Name};
 use rule_book::Book;
+use setup_tables::{Domain, Edges, SetupCause, SetupFault, Tables};
 use std::alloc::Global;
-use toml::Table;
 
 /// What a configuration sets up.
 #[derive(Debug, Drop)]
@@ -38,9 +33,8 @@ pub struct Setup {
 }
 
 impl Setup {
-    ghost use Rattle.mapt_setup.specs.Tables.{has_too_many};
-    ghost use Rattle.mapt_setup.specs.Few.{AreFew};
-    ghost use Rattle.mapt_setup.specs.Setup.{tables_setup, document_setup, setup_of};
+    ghost use Rattle.setup_tables.specs.Few.{AreFew};
+    ghost use Rattle.mapt_setup.specs.Setup.{tables_setup, setup_of};
     ghost use Rattle.mapt_setup.specs.Generation.{book_at};
     ghost use Rattle.mapt_setup.specs.Valid.{IsValidSetup};
 
@@ -81,25 +75,13 @@ impl Setup {
         })
     }
 
-    /// What a document sets up.
-    fn of(alloc: Global, document: &Table) -> Result<Setup, SetupFault>
-        requires { has_too_many (table_view document.now) ≡ false }
-        ensures { Gives (λ setup. setup) result (document_setup (table_view document.now)) }
-    {
-        Setup::of_tables(alloc, Tables::read(alloc, document)?)
-    }
-
     /// Reads a configuration. It is refused with its first fault: `Refused` with the first cause in the
     /// order of `SetupCause` over the whole file and its least place. What is answered is valid.
     pub fn read(alloc: Global, octets: &[u8]) -> Result<Setup, SetupFault>
         ensures exact { Gives (λ setup. setup) result (setup_of octets.now) }
         ensures valid { IfOk result IsValidSetup }
     {
-        let document = document(alloc, octets)?;
-        if has_too_many(&document) {
-            return Err(SetupFault::Refused(SetupCause::TooMany, 0));
-        }
-        Setup::of(alloc, &document)
+        Setup::of_tables(alloc, Tables::read(alloc, octets)?)
     }
 
     /// The book of a generation, in memory of its own: that of generation 0 after so many changes. A number

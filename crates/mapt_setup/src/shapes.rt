@@ -2,15 +2,13 @@
 
 ghost use Rattle.std.specs.Prelude.{◌≡◌, ◌≤◌, length, IfSome, IfNone};
 ghost use Rattle.map_rules.specs.declared.dmr.Dmr.{Dmr as DmrType};
-ghost use Rattle.mapt_setup.specs.Answer.{Gives, each};
+ghost use Rattle.setup_tables.specs.Answer.{Gives, each};
 ghost use Rattle.mapt_setup.specs.Shapes.{HasParts, BreaksShape, book_of};
 ghost use Rattle.mapt_setup.specs.Setup.{first_book};
 
-use crate::origin::Given;
-use crate::rule::RuleLine;
-use crate::{SetupCause, SetupFault};
 use map_rules::{Dmr, Rule};
 use rule_book::{Book, BookFault};
+use setup_tables::{Given, RuleLine, SetupCause, SetupFault};
 use std::alloc::Global;
 
 /// The rule of these parts, or `None` where they break a shape rule.

@@ -4,13 +4,13 @@ use Rattle.std.specs.Prelude.{nat_le}
 use Rattle.map_rules.specs.declared.dmr.Dmr.{Dmr}
 use Rattle.map_rules.specs.declared.rule.Rule.{Rule}
 use Rattle.rule_book.specs.Book.{rules_of, dmr_of}
-use Rattle.mapt_setup.specs.declared.fault.SetupCause.TheVariants.{NoGeneration}
+use Rattle.setup_tables.specs.declared.fault.SetupCause.TheVariants.{NoGeneration}
 use Rattle.mapt_setup.specs.Generation.{IsGeneration, rules_in, rules_at, with_rules, book_at}
 use Rattle.rule_book.specs.declared.book.Book.{Book}
 use Rattle.mapt_setup.specs.declared.setup.Setup.{Setup}
-use Rattle.mapt_setup.specs.declared.fault.SetupFault.{SetupFault}
-use Rattle.mapt_setup.specs.declared.fault.SetupFault.TheVariants as setup
-use Rattle.mapt_setup.specs.Answer.{Gives, exactly}
+use Rattle.setup_tables.specs.declared.fault.SetupFault.{SetupFault}
+use Rattle.setup_tables.specs.declared.fault.SetupFault.TheVariants as setup
+use Rattle.setup_tables.specs.Answer.{Gives, exactly}
 use Rattle.mapt_setup.specs.Setup.{setup_of}
 use Rattle.mapt_tool.specs.declared.status.Status.{Status}
 use Rattle.mapt_tool.specs.Course.{IsSetup, said_of}

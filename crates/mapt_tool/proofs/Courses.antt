@@ -2,9 +2,9 @@
 use Rattle.std.proofs.Common.{◌≡◌, ℕ, ◌-◌, List, [], length, Option, Some, None, Result, Ok, Err, refl, sym, ap, ◌∙◌, inl, inr}
 use Rattle.outside.specs.declared.file_id.FileId.TheVariants.{Config, InLan, Options}
 use Rattle.mapt_setup.specs.declared.setup.Setup.{Setup}
-use Rattle.mapt_setup.specs.declared.fault.SetupFault.{SetupFault}
+use Rattle.setup_tables.specs.declared.fault.SetupFault.{SetupFault}
 use Rattle.mapt_setup.proofs.OneReading.{one_setup}
-use Rattle.mapt_setup.specs.declared.fault.SetupCause.TheVariants.{BadHex, BadContainer}
+use Rattle.setup_tables.specs.declared.fault.SetupCause.TheVariants.{BadHex, BadContainer}
 use Rattle.s46_options.specs.declared.digits.HexFault.{HexFault}
 use Rattle.s46_options.specs.declared.digits.HexFault.TheVariants.{At}
 use Rattle.s46_options.specs.declared.fault.OptionFault.{OptionFault}
@@ -23,7 +23,7 @@ use Rattle.mapt_tool.specs.Reading.{Answers, Reads, Then}
 use Rattle.pcap_files.specs.declared.records.Record.{Record}
 use Rattle.pcap_files.specs.declared.fault.CaptureFault.{CaptureFault}
 use Rattle.pcap_files.specs.Capture.{capture}
-use Rattle.mapt_setup.specs.declared.edge.EdgeLine.{EdgeLine}
+use Rattle.setup_tables.specs.declared.edge.EdgeLine.{EdgeLine}
 use Rattle.one_edge.specs.declared.captures.Captures.{Captures}
 use Rattle.one_edge.specs.Edge.{Edge}
 use Rattle.one_edge.proofs.One.{same_edge, same_made, edge_or_none}

@@ -6,7 +6,7 @@ use Rattle.map_rules.specs.declared.rule.Rule.{Rule}
 use Rattle.rule_book.specs.Book.{dmr_of}
 use Rattle.rule_book.specs.Text.{book_text, owner_text}
 use Rattle.mapt_setup.specs.declared.setup.Setup.{Setup}
-use Rattle.mapt_setup.specs.declared.fault.SetupFault.{SetupFault}
+use Rattle.setup_tables.specs.declared.fault.SetupFault.{SetupFault}
 use Rattle.mapt_setup.specs.Setup.{setup_of}
 use Rattle.mapt_setup.specs.Generation.{rules_at}
 use Rattle.mapt_tool.specs.declared.status.Status.{Status}

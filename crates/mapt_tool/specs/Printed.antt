@@ -1,6 +1,6 @@
 -- What the command `options` says of a container of DHCPv6 options in hexadecimal text.
 use Rattle.std.specs.Prelude.{◌≡◌, ◌⊎◌, ℕ, List, length, Some, None, Result, Ok, Err}
-use Rattle.mapt_setup.specs.declared.fault.SetupCause.TheVariants.{BadHex, BadContainer}
+use Rattle.setup_tables.specs.declared.fault.SetupCause.TheVariants.{BadHex, BadContainer}
 use Rattle.s46_options.specs.declared.fault.OptionFault.{OptionFault}
 use Rattle.s46_options.specs.declared.digits.HexFault.TheVariants.{At}
 use Rattle.s46_options.specs.declared.item.Item.{Item}

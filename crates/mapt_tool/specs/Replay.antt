@@ -8,7 +8,7 @@ use Rattle.one_edge.specs.declared.captures.Captures.{Captures}
 use Rattle.one_edge.specs.Edge.{Edge, IsEdgeUnder, LacksEdge}
 use Rattle.one_edge.specs.Served.{AreReplayed}
 use Rattle.one_edge.specs.Crossed.{AreCaptured}
-use Rattle.mapt_setup.specs.declared.edge.EdgeLine.{EdgeLine}
+use Rattle.setup_tables.specs.declared.edge.EdgeLine.{EdgeLine}
 use Rattle.mapt_setup.specs.declared.setup.Setup.{Setup}
 use Rattle.mapt_tool.specs.declared.status.Status.{Status}
 use Rattle.mapt_tool.specs.declared.status.Status.TheVariants.{CaptureRefused, NotBuilt}

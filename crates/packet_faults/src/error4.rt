@@ -8,7 +8,7 @@ ghost use Rattle.packet_faults.specs.Error.{IsError4, IsUnanswered4, notice, emb
 
 use crate::notice::{Notice, Origin};
 use icmp_messages::Icmp4;
-use ip4_packet::{Head4, is_no_destination};
+use ip4_packet::{HEADER_LEN, Head4, is_no_destination};
 use octets::icmp_type::{
     PARAMETER_PROBLEM4, REDIRECT4, SOURCE_QUENCH4, TIME_EXCEEDED4, UNREACHABLE4,
 };
@@ -16,8 +16,6 @@ use octets::protocol::ICMP4;
 use octets::{Addr4, Bytes, NoMemory};
 use std::alloc::Global;
 
-/// Octets of an error's header.
-const HEADER_LEN: usize = 20;
 /// Octets in front of the packet that an error embeds: its header, and the front of its message.
 const BEFORE: usize = HEADER_LEN + 8;
 /// The most octets of an error (RFC 1812, section 4.3.2.3).

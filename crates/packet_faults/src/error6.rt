@@ -8,14 +8,12 @@ ghost use Rattle.packet_faults.specs.Error.{IsError6, IsUnanswered6, notice, emb
 
 use crate::notice::Notice;
 use icmp_messages::Icmp6;
-use ip6_packet::{Head6, is_no_destination};
+use ip6_packet::{HEADER_LEN, Head6, is_no_destination};
 use octets::icmp_type::LEAST_INFORMATIONAL6;
 use octets::protocol::ICMP6;
 use octets::{Addr6, Bytes, NoMemory};
 use std::alloc::Global;
 
-/// Octets of an error's header.
-const HEADER_LEN: usize = 40;
 /// Octets in front of the packet that an error embeds: its header, and the front of its message.
 const BEFORE: usize = HEADER_LEN + 8;
 /// The most octets of an error: the least MTU (RFC 4443, section 2.4).

@@ -417,7 +417,7 @@ pub edge_to_edge : (setting : Setting) (one other : EdgeAnswer) (c : Passed) →
 edge_to_edge setting one other c is = by one.answer other.answer is.out is.fits_out is.sent is.inward is.fits_in is.received
   where
     by : (out inward : Answer) → AnsweredOut one.step c.taken.head.dst out → FitsAnswer out → EdgeSends setting.mtus out c.taken c.octets c.passage
-        → AnsweredIn other.step c.read.head.src (near_addr6 c.read c.read.content) inward → FitsAnswer inward → EdgeReceives setting.mtus is.id inward c.read c.six (Sent c.four)
+        → AnsweredIn other.step c.read.head.src (near_addr6 c.read c.read.content) inward → FitsAnswer inward → EdgeReceives (record { mtus = setting.mtus; id = is.id }) inward c.read c.six (Sent c.four)
         → IsOneStep setting (out ∷ inward ∷ []) c
     by (Out out_from out_port src6 dst6 out_freed) (In to port from peer freed) answered fits sent answered_in fits_in received =
         let p = c.taken in

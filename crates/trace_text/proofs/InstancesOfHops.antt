@@ -113,7 +113,7 @@ an_edge_sends_pieces =
 
 comes : (to : Addr4) (port : ℕ) (from peer : Addr4) (q : Packet6) (six four : List ℕ)
     → IsPacket6 false q six
-    → EdgeReceives mtus 7 (In to port from peer []) q six (Sent four)
+    → EdgeReceives (record { mtus = mtus; id = 7 }) (In to port from peer []) q six (Sent four)
     → IsEdgeHop node Access (In to port from peer []) six (sends ToLan four)
 comes to port from peer q six four is received = (sends ToLan four, nothing, inl (q, is, (Sent four, received, refl)), refl, refl)
 
@@ -121,8 +121,8 @@ comes_with : (to : Addr4) (port : ℕ) (from peer : Addr4) (q r : Packet6) (six 
     → IsPacket6 false q six
     → IsPacket6 false r other
     → extent_of6 r.head ≡ LastPart
-    → EdgeReceives mtus 7 (In to port from peer []) q six (Sent four)
-    → EdgeReceives mtus 7 (In to port from peer []) r other (Sent others)
+    → EdgeReceives (record { mtus = mtus; id = 7 }) (In to port from peer []) q six (Sent four)
+    → EdgeReceives (record { mtus = mtus; id = 7 }) (In to port from peer []) r other (Sent others)
     → IsEdgeHop node Access (In to port from peer (record { place = place; bytes = other } ∷ [])) six
     (then (sends ToLan four) (then (sends ToLan others) nothing))
 comes_with to port from peer q r six other four others place is also later received freed = (

@@ -58,8 +58,8 @@ use Rattle.rule_book.specs.Owner.{covers_of}
 use Rattle.map_rules.specs.declared.rule.Rule.{Rule}
 use Rattle.crossing.specs.Named.{Portion, uncut, piece_at}
 use Rattle.crossing.proofs.Heads.{whole_parts}
-use Rattle.trace_text.specs.Hops.{EdgeReceives, IsEmitted, RelayReceives, ArePortsOf4, ArePortsOf6}
-use Rattle.trace_text.specs.Onward.{freed_with, IsOfHop, EdgeEmits, RelayEmits, Station, EdgeDelivers, RelayDelivers, IsOnIpv4}
+use Rattle.trace_text.specs.Hops.{EdgeReceives, Station, IsEmitted, RelayReceives, ArePortsOf4, ArePortsOf6}
+use Rattle.trace_text.specs.Onward.{freed_with, IsOfHop, EdgeEmits, RelayEmits, EdgeDelivers, RelayDelivers, IsOnIpv4}
 
 -- ---- packets of a list
 
@@ -218,10 +218,10 @@ station_of params id = record { mtus = params.mtus; id = id }
 access_delivers : (params : EdgeParams) (id : ℕ) (answer : Answer) (octets four : List ℕ) (hop : Hop) (k : ℕ) → Becomes (record { params = params; id = id }) Access answer octets hop → slice_get hop.outs k ≡ Some (OnLan four) → EdgeDelivers (station_of params id) answer octets four
 access_delivers params id (LetIn to port from peer freed) octets four hop k is e = by is.2.0 is.2.1 is.2.2
   where
-    by : (passage : Passage) → EdgeReceives params.mtus id (LetIn to port from peer freed) is.0 octets passage → IsCarried (Drops (record { params = params; id = id }) Access octets) ToLan passage hop → EdgeDelivers (station_of params id) (LetIn to port from peer freed) octets four
+    by : (passage : Passage) → EdgeReceives (record { mtus = params.mtus; id = id }) (LetIn to port from peer freed) is.0 octets passage → IsCarried (Drops (record { params = params; id = id }) Access octets) ToLan passage hop → EdgeDelivers (station_of params id) (LetIn to port from peer freed) octets four
     by (Sent sent) received carried =
         let same = lan_octets sent four (alone (OnLan sent) (OnLan four) k (out_of hop (sends ToLan sent) k (OnLan four) carried e)) in
-        record { read = is.0; arrives = is.1; received = subst (λ (xs : List ℕ). EdgeReceives params.mtus id (LetIn to port from peer freed) is.0 octets (Sent xs)) same received }
+        record { read = is.0; arrives = is.1; received = subst (λ (xs : List ℕ). EdgeReceives (record { mtus = params.mtus; id = id }) (LetIn to port from peer freed) is.0 octets (Sent xs)) same received }
     by (Cut pieces) received carried = absurd received
     by Spent received carried = absurd (access_drops params id octets four TtlSpent hop k carried e)
     by TooBig received carried = absurd (access_drops params id octets four IsTooBig hop k carried e)

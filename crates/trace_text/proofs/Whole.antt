@@ -259,7 +259,7 @@ edge_piece : (setting : Setting) (c : PassedInPieces) (six : Ends Addr6) (sent :
     IsTakenAs t c.octets → Replaced c.taken six.ports sent source → ipv4_behind setting.dmr six.src.0 ≡ Some source.0 → IsPieceThere t at octets → EdgeTakes setting sent octets a → IsOnBy t false octets a
 edge_piece setting c six sent source octets a at taken replaces holds there takes = by takes.edge.answer takes.fits takes.answered takes.received takes.replaced
   where
-    by : (answer : Answer) → FitsAnswer answer → AnsweredIn takes.edge.step takes.read.head.src (near_addr6 takes.read takes.read.content) answer → EdgeReceives setting.mtus takes.id answer takes.read octets (Sent a.octets) → nat44 sent answer ≡ Some a.replaced
+    by : (answer : Answer) → FitsAnswer answer → AnsweredIn takes.edge.step takes.read.head.src (near_addr6 takes.read takes.read.content) answer → EdgeReceives (record { mtus = setting.mtus; id = takes.id }) answer takes.read octets (Sent a.octets) → nat44 sent answer ≡ Some a.replaced
         → IsOnBy (cut_transfer setting c six (any_ends c.taken six.ports)) false octets a
     by (In to port from peer freed) fits answered received e =
         let p = c.taken in

@@ -75,7 +75,7 @@ pub record FromRelay (setting : Setting) (relay : Relay) (step : Step) (answer :
   pub fits : FitsAnswer answer
   pub id : ℕ
   pub numbered : IsNumbered setting c.read id
-  pub received : EdgeReceives setting.mtus id answer c.read c.six (Sent c.four)
+  pub received : EdgeReceives (record { mtus = setting.mtus; id = id }) answer c.read c.six (Sent c.four)
 
 -- one edge of two, by its machine's answer
 pub record EdgeAnswer : Type 0 where
@@ -96,7 +96,7 @@ pub record EdgeToEdge (setting : Setting) (one other : EdgeAnswer) (c : Passed) 
   pub fits_in : FitsAnswer other.answer
   pub id : ℕ
   pub numbered : IsNumbered setting c.read id
-  pub received : EdgeReceives setting.mtus id other.answer c.read c.six (Sent c.four)
+  pub received : EdgeReceives (record { mtus = setting.mtus; id = id }) other.answer c.read c.six (Sent c.four)
 
 -- the crossing, with this packet in place of the one that was taken
 abbrev pub crossing_with : Setting → Passed → Packet4 → Crossing

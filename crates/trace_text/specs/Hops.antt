@@ -53,10 +53,16 @@ EdgeSends mtus (Out from port src6 dst6 freed) p octets passage =
     IsPassage46 mtus p (payload_of4 p.head octets) (ends_out (flow_of4 p.content) port src6 dst6) passage
 EdgeSends mtus _ p octets passage = ⊥
 
-abbrev pub EdgeReceives : Mtus → ℕ → Answer → Packet6 → List ℕ → Passage → Type 0
-EdgeReceives mtus id (In to port from peer freed) q six passage =
-    IsPassage64 (record { mtus = mtus; ends = ends_in (flow_of6 q.content) to port from peer; id = id }) q (payload_of6 q.head six) passage
-EdgeReceives mtus id _ q six passage = ⊥
+-- an edge, which gives packets that have none this identification
+pub record Station : Type 0 where
+  pub mtus : Mtus
+  pub id : ℕ
+
+abbrev pub EdgeReceives : Station → Answer → Packet6 → List ℕ → Passage → Type 0
+EdgeReceives at (In to port from peer freed) q six passage =
+    IsPassage64 (record { mtus = at.mtus; ends = ends_in (flow_of6 q.content) to port from peer; id = at.id }) q
+        (payload_of6 q.head six) passage
+EdgeReceives at _ q six passage = ⊥
 
 -- What goes over the access network: the translation, or one of the pieces into which it is cut, which begins so many octets
 -- behind the start of the payload.

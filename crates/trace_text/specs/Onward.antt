@@ -16,7 +16,7 @@ use Rattle.transit.specs.declared.passage.Passage.{Passage}
 use Rattle.transit.specs.declared.passage.Passage.TheVariants.{Sent}
 use Rattle.relay_node.specs.Relay.{Relay}
 use Rattle.crossing.specs.Named.{Portion}
-use Rattle.trace_text.specs.Hops.{EdgeSends, EdgeReceives, IsEmitted, RelaySends, RelayReceives}
+use Rattle.trace_text.specs.Hops.{EdgeSends, EdgeReceives, IsEmitted, RelaySends, RelayReceives, Station}
 
 -- these octets leave over IPv4: out into the core, or once more to the relay
 abbrev pub IsOnIpv4 : List ℕ → Out → Type 0
@@ -51,16 +51,11 @@ pub record RelayEmits (relay : Relay) (octets six : List ℕ) : Type 0 where
   pub portion : Portion
   pub emitted : IsEmitted relay.params.mtus passage portion six
 
--- an edge, which gives packets that have none this identification
-pub record Station : Type 0 where
-  pub mtus : Mtus
-  pub id : ℕ
-
 -- by this answer an edge sends so to its LAN of a packet from the access network
 pub record EdgeDelivers (station : Station) (answer : Answer) (six four : List ℕ) : Type 0 where
   pub read : Packet6
   pub arrives : IsPacket6 false read six
-  pub received : EdgeReceives station.mtus station.id answer read six (Sent four)
+  pub received : EdgeReceives station answer read six (Sent four)
 
 -- the relay sends so to the core, or to itself
 pub record RelayDelivers (relay : Relay) (six four : List ℕ) : Type 0 where

@@ -49,7 +49,7 @@ pub record EdgeTakes (setting : Setting) (sent : Packet4) (six : List ℕ) (a : 
   pub arrives : IsPacket6 false read six
   pub answered : AnsweredIn edge.step read.head.src (near_addr6 read read.content) edge.answer
   pub id : ℕ
-  pub received : EdgeReceives setting.mtus id edge.answer read six (Sent a.octets)
+  pub received : EdgeReceives (record { mtus = setting.mtus; id = id }) edge.answer read six (Sent a.octets)
   pub replaced : nat44 sent edge.answer ≡ Some a.replaced
 
 -- from an edge, which sent it as this packet, to the relay

@@ -37,6 +37,7 @@ ghost use Rattle.hops.specs.declared.hop.Out.TheVariants.{Lan as OverLan, Access
 ghost use Rattle.frag_table.specs.declared.answer.FragAnswer.{FragAnswer};
 ghost use Rattle.nat_model.specs.Waiting.{freed_of};
 ghost use Rattle.edge_node.specs.declared.way.EdgeParams.{EdgeParams};
+ghost use Rattle.edge_node.specs.declared.way.Node.{Node};
 ghost use Rattle.edge_node.specs.declared.way.Way.TheVariants.{Lan, Access};
 ghost use Rattle.edge_node.specs.Hop.{FromLan, FromAccess, IsLaterAt, IsEdgeHop};
 ghost use Rattle.trace_text.specs.Hops.{AreOctets, ArePortsOf4, ArePortsOf6};
@@ -116,18 +117,18 @@ pub fn the_relay_sends_what_it_does_not_lose()
 /// What the hop of an edge does with a packet of its LAN that its machine lets out: it is sent as the laws of crossings say, and then
 /// it leaves, or is dropped with an answer.
 pub fn an_edge_sends_what_its_machine_lets_out()
-    ensures { (params : EdgeParams) (id : ℕ) (from : Addr4) (port : ℕ) (src6 dst6 : Addr6) (freed : List Parcel)
+    ensures { (node : Node) (from : Addr4) (port : ℕ) (src6 dst6 : Addr6) (freed : List Parcel)
         (p : Packet4) (octets : List ℕ) (hop : Hop)
-        → FromLan (record { params = params; id = id }) (LetOut from port src6 dst6 freed) octets p hop
-        → IsSentOut params id (LetOut from port src6 dst6 freed) p octets hop }
+        → FromLan node (LetOut from port src6 dst6 freed) octets p hop
+        → IsSentOut node (LetOut from port src6 dst6 freed) p octets hop }
 {}
 
 /// The same with a packet from the access network that its machine lets in.
 pub fn an_edge_receives_what_its_machine_lets_in()
-    ensures { (params : EdgeParams) (id : ℕ) (to : Addr4) (port : ℕ) (from peer : Addr4) (freed : List Parcel)
+    ensures { (node : Node) (to : Addr4) (port : ℕ) (from peer : Addr4) (freed : List Parcel)
         (q : Packet6) (six : List ℕ) (hop : Hop)
-        → FromAccess (record { params = params; id = id }) (LetIn to port from peer freed) six q hop
-        → IsTakenIn params id (LetIn to port from peer freed) q six hop }
+        → FromAccess node (LetIn to port from peer freed) six q hop
+        → IsTakenIn node (LetIn to port from peer freed) q six hop }
 {}
 
 /// Each packet that the hop of an edge sends over the access network, for a packet of its LAN, is the translation by its machine's

@@ -7,12 +7,12 @@ ghost use Rattle.turned_packets.specs.Embedded.{with_quad, sum_place, embedded_h
 ghost use Rattle.turned_packets.specs.Inside.{new_end_in};
 
 use crate::ends::NewEnd;
-use crate::layout::{HEADER_SUM_AT, address_place, port_place, sum_place};
+use crate::layout::{address_place, port_place, sum_place};
 use crate::segment::{changed_sum, end_words};
 use byteorder::{BigEndian, ByteOrder};
 use icmp_messages::Inner4;
 use inet_sum::adjust;
-use ip4_packet::Head4;
+use ip4_packet::{Head4, SUM_AT};
 use l4_headers::address_sum4;
 use octets::{Bytes, NoMemory, word_at};
 use std::alloc::Global;
@@ -43,8 +43,8 @@ fn turn_header(octets: &mut [u8], new: &NewEnd, head: &Head4)
 {
     let old_words = address_sum4(new.end.address_at(head));
     let new_words = address_sum4(new.addr);
-    let sum = adjust(word_at(octets, HEADER_SUM_AT), old_words, new_words);
-    set_word(octets, HEADER_SUM_AT, sum);
+    let sum = adjust(word_at(octets, SUM_AT), old_words, new_words);
+    set_word(octets, SUM_AT, sum);
     set_quad(octets, address_place(new.end), new.addr.0);
 }
 

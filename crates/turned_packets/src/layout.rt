@@ -5,30 +5,11 @@ ghost use Rattle.turned_packets.specs.Embedded.{address_place, port_place, sum_p
 ghost use Rattle.turned_packets.specs.Inside.{end_in};
 
 use crate::ends::End;
+use ip4_packet::{DESTINATION_AT, SOURCE_AT};
+use l4_headers::place::{
+    DESTINATION_PORT_AT, ICMP_SUM_AT, IDENTIFIER_AT, SOURCE_PORT_AT, TCP_SUM_AT, UDP_SUM_AT,
+};
 use octets::Proto;
-
-/// The sum of an IPv4 header, in octets from its start (RFC 791, section 3.1).
-pub const HEADER_SUM_AT: usize = 10;
-
-/// Its addresses.
-const SOURCE_AT: usize = 12;
-
-const DESTINATION_AT: usize = 16;
-
-/// The ports of TCP and UDP, in octets from the start of the transport header (RFC 9293, section 3.1; RFC 768), and the
-/// identifier of an echo (RFC 792).
-const SOURCE_PORT_AT: usize = 0;
-
-const DESTINATION_PORT_AT: usize = 2;
-
-const IDENTIFIER_AT: usize = 4;
-
-/// Their sums.
-const TCP_SUM_AT: usize = 16;
-
-const UDP_SUM_AT: usize = 6;
-
-const ICMP_SUM_AT: usize = 2;
 
 /// The address of an end, in octets from the start of the IPv4 header.
 pub fn address_place(end: End) -> usize

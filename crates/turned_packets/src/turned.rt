@@ -13,13 +13,10 @@ use crate::embedded::turned_embedded;
 use crate::ends::{End, NewEnd};
 use crate::segment::turned_segment;
 use icmp_messages::{Icmp4, Inner4};
-use ip4_packet::Head4;
+use ip4_packet::{HEADER_LEN, Head4};
 use octets::{Addr4, Bytes, NoMemory};
 use packets::{Content4, Packet4};
 use std::alloc::Global;
-
-/// Octets of a header without options.
-const HEADER_LEN: u8 = 20;
 
 /// The header of a turned packet with a payload of this length.
 fn turned_head(new: &NewEnd, head: &Head4, len: u16) -> Head4
@@ -33,8 +30,8 @@ fn turned_head(new: &NewEnd, head: &Head4, len: u16) -> Head4
     };
     Head4 {
         ttl,
-        head_len: HEADER_LEN,
-        total: u16::from(HEADER_LEN) + len,
+        head_len: HEADER_LEN as u8,
+        total: HEADER_LEN as u16 + len,
         ..new.end.with_address(new.addr, head)
     }
 }

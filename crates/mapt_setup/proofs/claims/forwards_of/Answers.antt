@@ -1,6 +1,6 @@
 use Rattle.std.proofs.Common.{sym}
 use Rattle.std.proofs.lemmas.Result.{err_from_is_err_and}
-use Rattle.mapt_setup.proofs.Stages.{bad_place, bad_claim, good_forwards}
+use Rattle.mapt_setup.proofs.SetupStages.{bad_place, bad_claim, good_forwards}
 use Rattle.mapt_setup.proofs.claims.forwards_of.Goals as goal
 
 pub returns-in_err-forwards : goal.returns-in_err-forwards

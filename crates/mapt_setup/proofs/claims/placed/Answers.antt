@@ -1,9 +1,9 @@
 use Rattle.std.proofs.Common.{◌≡◌, None, List, refl, subst, sym, ◌∙◌, map}
 use Rattle.std.specs.List.{AllZip}
-use Rattle.mapt_setup.specs.declared.forward.ForwardText.{ForwardText}
-use Rattle.mapt_setup.specs.Answer.{HasNone, IsFirstBad}
+use Rattle.setup_tables.specs.declared.forward.ForwardText.{ForwardText}
+use Rattle.setup_tables.specs.Answer.{HasNone, IsFirstBad}
 use Rattle.mapt_setup.specs.Claims.{IsAtEdge, edge_place}
-use Rattle.mapt_setup.proofs.ListReads.{read-push, first_bad, map-same, take_all, few_read}
+use Rattle.setup_tables.proofs.ListReads.{read-push, first_bad, map-same, take_all, few_read}
 use Rattle.mapt_setup.proofs.PlacedForwards.{no_edge}
 use Rattle.mapt_setup.proofs.claims.placed.Goals as goal
 

@@ -1,6 +1,6 @@
 use Rattle.std.proofs.Common.{map, take}
 use Rattle.std.specs.List.{AllZip}
-use Rattle.mapt_setup.specs.declared.forward.ForwardText.{ForwardText}
+use Rattle.setup_tables.specs.declared.forward.ForwardText.{ForwardText}
 use Rattle.mapt_setup.specs.Claims.{IsAtEdge}
 use Rattle.mapt_setup.proofs.claims.placed.Given as goal
 

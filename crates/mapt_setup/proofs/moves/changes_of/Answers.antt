@@ -1,5 +1,5 @@
 use Rattle.std.proofs.Common.{sym}
-use Rattle.mapt_setup.proofs.Stages.{bad_order, ordered}
+use Rattle.mapt_setup.proofs.SetupStages.{bad_order, ordered}
 use Rattle.mapt_setup.proofs.moves.changes_of.Goals as goal
 
 pub returns-in-Some : goal.returns-in-Some

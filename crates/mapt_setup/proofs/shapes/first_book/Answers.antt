@@ -1,5 +1,5 @@
 use Rattle.std.proofs.lemmas.Result.{err_from_is_err_and}
-use Rattle.mapt_setup.proofs.Stages.{bad_shape, shaped_book}
+use Rattle.mapt_setup.proofs.SetupStages.{bad_shape, shaped_book}
 use Rattle.mapt_setup.proofs.shapes.first_book.Goals as goal
 
 pub returns-in_err-rules : goal.returns-in_err-rules

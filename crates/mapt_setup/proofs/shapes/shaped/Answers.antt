@@ -1,9 +1,9 @@
 use Rattle.std.proofs.Common.{List, refl, subst, ◌∙◌}
 use Rattle.std.specs.List.{AllZip}
-use Rattle.mapt_setup.specs.declared.rule.RuleLine.{RuleLine}
-use Rattle.mapt_setup.specs.Answer.{IsFirstBad}
+use Rattle.setup_tables.specs.declared.rule.RuleLine.{RuleLine}
+use Rattle.setup_tables.specs.Answer.{IsFirstBad}
 use Rattle.mapt_setup.specs.Shapes.{HasParts, BreaksShape}
-use Rattle.mapt_setup.proofs.ListReads.{read-push, first_bad, map-same, take_all}
+use Rattle.setup_tables.proofs.ListReads.{read-push, first_bad, map-same, take_all}
 use Rattle.mapt_setup.proofs.shapes.shaped.Goals as goal
 
 pub returns-in_default : goal.returns-in_default

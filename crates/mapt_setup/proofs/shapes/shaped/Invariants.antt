@@ -1,6 +1,6 @@
 use Rattle.std.proofs.Common.{map, take}
 use Rattle.std.specs.List.{AllZip}
-use Rattle.mapt_setup.specs.declared.rule.RuleLine.{RuleLine}
+use Rattle.setup_tables.specs.declared.rule.RuleLine.{RuleLine}
 use Rattle.mapt_setup.specs.Shapes.{HasParts}
 use Rattle.mapt_setup.proofs.shapes.shaped.Given as goal
 

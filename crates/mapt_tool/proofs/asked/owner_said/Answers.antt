@@ -2,7 +2,7 @@ use Rattle.std.proofs.Common.{List, map, ap, ◌∙◌}
 use Rattle.map_rules.specs.declared.dmr.Dmr.{Dmr}
 use Rattle.map_rules.specs.declared.rule.Rule.{Rule}
 use Rattle.rule_book.specs.Text.{owner_text}
-use Rattle.mapt_setup.specs.declared.edge.EdgeLine.{EdgeLine}
+use Rattle.setup_tables.specs.declared.edge.EdgeLine.{EdgeLine}
 use Rattle.mapt_tool.specs.Planned.{says}
 use Rattle.mapt_tool.proofs.Configured.{book_refused, book_said}
 use Rattle.mapt_tool.proofs.asked.owner_said.Goals as goal

@@ -4,7 +4,7 @@ use Rattle.octets.proofs.Same.{both_true}
 use Rattle.map_rules.proofs.Same.{both_pass, number_same}
 use Rattle.outside.specs.declared.file_id.FileId.{FileId}
 use Rattle.pcap_files.specs.declared.fault.CaptureFault.{CaptureFault}
-use Rattle.mapt_setup.specs.declared.fault.SetupCause.{SetupCause}
+use Rattle.setup_tables.specs.declared.fault.SetupCause.{SetupCause}
 use Rattle.mapt_tool.specs.declared.status.Status.TheVariants.{Done, Usage, ReadFault, WriteFault, SetupRefused, CaptureRefused, TooLong, NoMemory, NotBuilt}
 use Rattle.mapt_tool.proofs.equal.equal_values_are_the_same.Goals as goal
 

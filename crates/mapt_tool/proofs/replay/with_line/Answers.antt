@@ -1,7 +1,7 @@
 use Rattle.std.proofs.Common.{sym, subst, refl, Option}
 use Rattle.outside.specs.Seen.{folder_seen}
 use Rattle.rule_book.specs.declared.book.Book.{Book}
-use Rattle.mapt_setup.specs.declared.edge.EdgeLine.{EdgeLine}
+use Rattle.setup_tables.specs.declared.edge.EdgeLine.{EdgeLine}
 use Rattle.one_edge.specs.Edge.{edge_in, IsEdgeUnder}
 use Rattle.mapt_tool.specs.Replay.{only_edge, Replayed, IsEdgeOf}
 use Rattle.mapt_tool.proofs.Replays.{ends_with}

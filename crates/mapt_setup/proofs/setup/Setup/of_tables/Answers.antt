@@ -1,6 +1,6 @@
 use Rattle.std.proofs.Common.{sym}
 use Rattle.std.proofs.lemmas.Result.{err_from_is_err_and}
-use Rattle.mapt_setup.proofs.Stages.{Whence, Claimed, bad_origin, bad_book, bad_edges, bad_forwards, bad_changes, good}
+use Rattle.mapt_setup.proofs.SetupStages.{Whence, Claimed, bad_origin, bad_book, bad_edges, bad_forwards, bad_changes, good}
 use Rattle.mapt_setup.proofs.ValidSetups.{book_first}
 use Rattle.mapt_setup.proofs.setup.Setup.of_tables.Goals as goal
 

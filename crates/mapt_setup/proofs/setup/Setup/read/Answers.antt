@@ -1,25 +1,14 @@
-use Rattle.std.proofs.Common.{◌≡◌, Some, None, rules}
 use Rattle.std.proofs.lemmas.Result.{err_from_is_err_and}
-use Rattle.toml.specs.View.{table_view}
-use Rattle.mapt_setup.specs.declared.fault.SetupCause.TheVariants.{TooMany}
-use Rattle.mapt_setup.specs.declared.fault.SetupFault.TheVariants.{Refused}
-use Rattle.mapt_setup.specs.Tables.{early_fault}
-use Rattle.mapt_setup.proofs.Stages.{no_document, early, whole}
+use Rattle.mapt_setup.proofs.SetupStages.{bad_tables, by_tables}
 use Rattle.mapt_setup.proofs.ValidSetups.{valid_read}
 use Rattle.mapt_setup.proofs.setup.Setup.read.Goals as goal
 
-pub returns-in_err-document-clause-exact : goal.returns-in_err-document-clause-exact
-returns-in_err-document-clause-exact c =
+pub returns-in_err-read-clause-exact : goal.returns-in_err-read-clause-exact
+returns-in_err-read-clause-exact c =
     let p = err_from_is_err_and c.from_residual.result c.from_residual.ensures.1 in
-    rw (p.1, p.2) (no_document _ _ c.in_err-document.ensures)
-
-pub returns-then-has_too_many-clause-exact : goal.returns-then-has_too_many-clause-exact
-returns-then-has_too_many-clause-exact c =
-    let fault : early_fault (table_view c.in_ok-document.document) ≡ Some (Refused TooMany 0) = search rules in
-    early _ _ _ c.in_ok-document.ensures fault
+    rw (p.1, p.2) (bad_tables _ _ c.in_err-read.ensures.exact)
 
 pub returns : goal.returns
 returns c =
-    let none : early_fault (table_view c.in_ok-document.document) ≡ None = search rules in
-    let exact = whole _ _ _ c.in_ok-document.ensures none c.of.ensures in
-    record { exact = exact; valid = valid_read _ c.of.result exact }
+    let exact = by_tables _ _ _ c.in_ok-read.ensures.exact c.of_tables.ensures in
+    record { exact = exact; valid = valid_read _ c.of_tables.result exact }

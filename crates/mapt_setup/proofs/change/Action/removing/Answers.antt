@@ -1,6 +1,0 @@
-use Rattle.mapt_setup.proofs.Actions.{removes_nothing}
-use Rattle.mapt_setup.proofs.ListReads.{at_none}
-use Rattle.mapt_setup.proofs.change.Action.removing.Goals as goal
-
-pub returns-in_err-prefix6_at-clause-none : goal.returns-in_err-prefix6_at-clause-none
-returns-in_err-prefix6_at-clause-none c = at_none c.from_residual.result (removes_nothing _ c.requires (λ p h. c.in_err-prefix6_at.ensures.only p h.prefix))

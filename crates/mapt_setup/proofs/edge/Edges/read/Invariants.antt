@@ -1,8 +1,0 @@
-use Rattle.std.proofs.Common.{map, take}
-use Rattle.std.specs.List.{AllZip}
-use Rattle.toml.specs.View.{view}
-use Rattle.mapt_setup.specs.Edge.{IsEdge}
-use Rattle.mapt_setup.proofs.edge.Edges.read.Given as goal
-
-abbrev pub invariant-loop-i : goal.invariant-loop-i
-invariant-loop-i l = AllZip IsEdge (map view (take l.i l.values)) l.edges

@@ -1,0 +1,10 @@
+pub mod Seen
+pub mod Spellings
+pub mod ListReads
+pub mod Stages
+pub mod TableStages
+pub mod OneAnswer
+pub mod Actions
+pub mod OneReading
+pub mod LinesFew
+pub mod TablesInRange

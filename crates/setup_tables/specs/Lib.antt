@@ -1,0 +1,13 @@
+pub mod Keys
+pub mod Answer
+pub mod Spelled
+pub mod Rule
+pub mod Lines
+pub mod Origin
+pub mod Domain
+pub mod EdgeName
+pub mod Edge
+pub mod Forward
+pub mod Change
+pub mod Tables
+pub mod Few
