@@ -1,0 +1,4 @@
+pub mod Waiting
+pub mod Answers
+pub mod Derived
+pub mod OneThread

@@ -1,0 +1,2 @@
+//! The journeys of records through the domain.
+#![tactic(auto)]
