@@ -85,7 +85,7 @@ pub fn error46(
     requires pointer { LacksPointer46 message.now (Some row) → ⊥ }
     ensures value { IfOk result (λ m. option_map
         (λ rest. error46 row rest inner.now passing.now.ends)
-            (rest46 passing.now.mtus inner.now.head.total message.now.rest row.rest) ≡ Some m) }
+        (rest46 passing.now.mtus inner.now.head.total message.now.rest row.rest) ≡ Some m) }
     ensures fits { IfOk result (λ m. length m.body ≤ 1232) }
 {
     let rest = rest46(passing.mtus, inner.head.total, message.rest, row.rest);

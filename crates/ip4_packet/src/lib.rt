@@ -12,5 +12,5 @@ mod read;
 
 pub use fault::is_no_destination;
 pub use head::Head4;
-pub use layout::{DESTINATION_AT, HEADER_LEN, SOURCE_AT, SUM_AT};
 pub use laws::{equal_headers_are_the_same, options_are_read_by_their_grammar};
+pub use layout::{DESTINATION_AT, HEADER_LEN, SOURCE_AT, SUM_AT};

@@ -11,6 +11,6 @@ mod layout;
 mod read;
 
 pub use fault::is_no_destination;
-pub use layout::HEADER_LEN;
 pub use head::{Frag6, Head6};
 pub use laws::{chains_are_read_by_their_grammar, equal_headers_are_the_same};
+pub use layout::HEADER_LEN;

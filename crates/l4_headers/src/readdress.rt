@@ -6,7 +6,7 @@ ghost use Rattle.l4_headers.specs.Transport.{header_octets, with_l4};
 ghost use Rattle.l4_headers.specs.Readdressed.{as_written, port_words, readdressed_sum, computed_udp_sum};
 
 use crate::place::{PORTS_END, TCP_SUM_AT, UDP_SUM_AT};
-use crate::{L4, Ports};
+use crate::{L4, Ports, udp};
 use inet_sum::{adjust, as_udp, check_of, sum};
 use octets::{Bytes, NoMemory, Proto};
 
@@ -65,7 +65,7 @@ fn pieces(
     requires stands { sum_at + 2 ≤ length payload.now }
     ensures { IfOk result (λ octets. octets
         ≡ front ++ (in_word ports.src ++
-            (in_word ports.dst ++ (part payload.now 4 (sum_at - 4) ++ (in_word sum ++ drop (sum_at + 2) payload.now))))) }
+        (in_word ports.dst ++ (part payload.now 4 (sum_at - 4) ++ (in_word sum ++ drop (sum_at + 2) payload.now))))) }
 {
     let mut octets = front;
     octets.extend(&ports.src.to_be_bytes())?;

@@ -87,7 +87,7 @@ pub fn a_flow_finds_no_port_exactly_where_all_are_bound()
     ensures flow { (prefix : Prefix6) (s : NatState) (m : Moment) (h : Holder) (proto : Proto) (near far : End4) (flags : ℕ) (part : Part)
         → holder_at prefix (settled prefix s m) ≡ Some h
         → ((ports : Ports) → gone_by (settled prefix s m) m.place (Outward false proto near far flags part)
-            ≡ Some ports → ports.src < 65536)
+        ≡ Some ports → ports.src < 65536)
         → cause_in (nat prefix s m (Outward false proto near far flags part)).answer ≡ Some NoPort
         ↔ ((ports : Ports)
         × (gone_by (settled prefix s m) m.place (Outward false proto near far flags part) ≡ Some ports)

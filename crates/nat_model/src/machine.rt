@@ -101,13 +101,17 @@ impl Machine {
         requires now { now < 2 ^ 63 }
         requires newer { self.old.state.book.number < V.number view.now }
         ensures answer { IfOk result (λ answer. answer
-            ≡ (timed self.old.prefix (renewed self.old.prefix (record { rules = V.rules view.now;
-            dmr = V.default_rule view.now;
-            number = V.number view.now }) self.old.state) now self.old.steps ask.now).answer) }
+            ≡ (timed self.old.prefix (renewed self.old.prefix (record {
+              rules = V.rules view.now;
+              dmr = V.default_rule view.now;
+              number = V.number view.now;
+            }) self.old.state) now self.old.steps ask.now).answer) }
         ensures after { OnOk result (self.new.state
-            ≡ (timed self.old.prefix (renewed self.old.prefix (record { rules = V.rules view.now;
-            dmr = V.default_rule view.now;
-            number = V.number view.now }) self.old.state) now self.old.steps ask.now).after) }
+            ≡ (timed self.old.prefix (renewed self.old.prefix (record {
+              rules = V.rules view.now;
+              dmr = V.default_rule view.now;
+              number = V.number view.now;
+            }) self.old.state) now self.old.steps ask.now).after) }
         ensures prefix { OnOk result (self.new.prefix ≡ self.old.prefix) }
         ensures steps { OnOk result (self.new.steps ≡ self.old.steps + 1) }
         ensures err { OnErr result (self.new ≡ self.old) }
@@ -221,12 +225,12 @@ impl Known<'_> {
         requires notes { notes.old.clock ≤ self.now.clock }
         ensures moved { IfOk result (λ made.
             held_by
-                (state_at (generation_in self.now.book.now) self.now.clock
-                    (filter (is_unexpired self.now.clock) staying.now) notes.old.notes)
-                self.now.place ask.now (holder_of (generation_in self.now.book.now).rules self.now.prefix)
+            (state_at (generation_in self.now.book.now) self.now.clock
+            (filter (is_unexpired self.now.clock) staying.now) notes.old.notes)
+            self.now.place ask.now (holder_of (generation_in self.now.book.now).rules self.now.prefix)
             ≡ record {
-                after = state_at (generation_in self.now.book.now) self.now.clock made.bindings.items notes.new.notes;
-                answer = made.answer;
+              after = state_at (generation_in self.now.book.now) self.now.clock made.bindings.items notes.new.notes;
+              answer = made.answer;
             }) }
         ensures clock { OnOk result (notes.new.clock ≤ self.now.clock) }
         ensures err { OnErr result (notes.new ≡ notes.old) }

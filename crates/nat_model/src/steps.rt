@@ -57,7 +57,7 @@ impl Standing<'_> {
         requires clock { self.now.clock < 2 ^ 63 }
         ensures { (notes : List NoteType)
             → sent_flow (holder_in self.now.edge)
-                (state_at (generation_in self.now.book.now) self.now.clock bindings.old.items notes) (wish_in wish) far freed
+            (state_at (generation_in self.now.book.now) self.now.clock bindings.old.items notes) (wish_in wish) far freed
             ≡ record { after = state_at (generation_in self.now.book.now) self.now.clock bindings.new.items notes; answer = result } }
     {
         let Some(placed) = wish.placed(&self.edge, self.clock, bindings) else {
@@ -75,7 +75,7 @@ impl Standing<'_> {
         requires clock { self.now.clock < 2 ^ 63 }
         ensures { (notes : List NoteType)
             → keeps (holder_in self.now.edge)
-                (state_at (generation_in self.now.book.now) self.now.clock bindings.old.items notes) (wish_in wish) until
+            (state_at (generation_in self.now.book.now) self.now.clock bindings.old.items notes) (wish_in wish) until
             ≡ record { after = state_at (generation_in self.now.book.now) self.now.clock bindings.new.items notes; answer = result } }
     {
         let Some(placed) = wish.placed(&self.edge, self.clock, bindings) else {
@@ -94,7 +94,7 @@ impl Standing<'_> {
     fn sent_error(&self, wish: Wish, far: End4, freed: Parcels, bindings: &[Binding]) -> Answer
         ensures { (notes : List NoteType)
             → sent_error (holder_in self.now.edge)
-                (state_at (generation_in self.now.book.now) self.now.clock bindings.now notes) (wish_in wish) far freed
+            (state_at (generation_in self.now.book.now) self.now.clock bindings.now notes) (wish_in wish) far freed
             ≡ record { after = state_at (generation_in self.now.book.now) self.now.clock bindings.now notes; answer = result } }
     {
         let Some(at) = place_of_host(bindings, wish.proto, wish.near) else {
@@ -108,7 +108,7 @@ impl Standing<'_> {
     fn sent_from(&self, binding: &Binding, far: End4, freed: Parcels) -> Answer
         ensures { (bs : List BindingType) (notes : List NoteType)
             → result ≡ sent_from (holder_in self.now.edge)
-                (state_at (generation_in self.now.book.now) self.now.clock bs notes) binding.now far freed }
+            (state_at (generation_in self.now.book.now) self.now.clock bs notes) binding.now far freed }
     {
         let to = End4 {
             addr: far.addr,
@@ -227,17 +227,12 @@ impl Standing<'_> {
     }
 
     /// What becomes of a fragment, by what its fragment step answers.
-    pub(crate) fn told(
-        &self,
-        ask: &Ask,
-        answer: FragAnswer,
-        bindings: &mut Vec<Binding>,
-    ) -> Answer
+    pub(crate) fn told(&self, ask: &Ask, answer: FragAnswer, bindings: &mut Vec<Binding>) -> Answer
         requires room { vec_len bindings.old < vec_capacity bindings.old }
         requires clock { self.now.clock < 2 ^ 63 }
         ensures { (notes : List NoteType)
             → told (holder_in self.now.edge)
-                (state_at (generation_in self.now.book.now) self.now.clock bindings.old.items notes) ask.now answer
+            (state_at (generation_in self.now.book.now) self.now.clock bindings.old.items notes) ask.now answer
             ≡ record { after = state_at (generation_in self.now.book.now) self.now.clock bindings.new.items notes; answer = result } }
     {
         let (ports, freed) = match answer {
@@ -264,11 +259,11 @@ impl Standing<'_> {
         requires notes { notes.old.clock ≤ self.now.clock }
         ensures gathered { IfOk result (λ answer.
             gathered (holder_in self.now.edge)
-                (state_at (generation_in self.now.book.now) self.now.clock bindings.old.items notes.old.notes)
-                place ask.now (frag_ask_of (part_of ask.now) (ports_of ask.now))
+            (state_at (generation_in self.now.book.now) self.now.clock bindings.old.items notes.old.notes)
+            place ask.now (frag_ask_of (part_of ask.now) (ports_of ask.now))
             ≡ record {
-                after = state_at (generation_in self.now.book.now) self.now.clock bindings.new.items notes.new.notes;
-                answer = answer;
+              after = state_at (generation_in self.now.book.now) self.now.clock bindings.new.items notes.new.notes;
+              answer = answer;
             }) }
         ensures clock { OnOk result (notes.new.clock ≤ self.now.clock) }
         ensures err { OnErr result (notes.new ≡ notes.old) }

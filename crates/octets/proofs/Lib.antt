@@ -16,3 +16,4 @@ pub mod Spelling6
 pub mod Turns
 pub mod Words
 pub mod Written6
+pub mod Segments

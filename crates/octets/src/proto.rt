@@ -1,4 +1,4 @@
-ghost use Rattle.std.specs.Prelude.{◌≡◌};
+ghost use Rattle.std.specs.Prelude.{◌≡◌, ◌⊎◌, Some};
 ghost use Rattle.octets.specs.Protocol.{proto4, proto6, number4, number6};
 
 use crate::protocol::{ICMP4, ICMP6, TCP, UDP};
@@ -34,6 +34,15 @@ impl Proto {
             ICMP6 => Some(Proto::Icmp),
             _ => None,
         }
+    }
+
+    /// TCP or UDP, which have one number over both versions.
+    pub fn of_segment(number: u8) -> Proto
+        requires { (number ≡ 6) ⊎ (number ≡ 17) }
+        ensures four { proto4 number ≡ Some result }
+        ensures six { proto6 number ≡ Some result }
+    {
+        if number == TCP { Proto::Tcp } else { Proto::Udp }
     }
 
     /// Its number over IPv4.

@@ -61,7 +61,7 @@ pub record Station : Type 0 where
 abbrev pub EdgeReceives : Station → Answer → Packet6 → List ℕ → Passage → Type 0
 EdgeReceives at (In to port from peer freed) q six passage =
     IsPassage64 (record { mtus = at.mtus; ends = ends_in (flow_of6 q.content) to port from peer; id = at.id }) q
-        (payload_of6 q.head six) passage
+    (payload_of6 q.head six) passage
 EdgeReceives at _ q six passage = ⊥
 
 -- What goes over the access network: the translation, or one of the pieces into which it is cut, which begins so many octets

@@ -28,7 +28,7 @@ pub fn a_right_sum_stays_right_when_turned()
         → IsSegment4 h payload proto l4 → (proto ≡ Udp → word payload 6 ≢ 0) → PortsFit new l4.ports → len < 65536
         → IsRightOver (pseudo_header4 h.src h.dst h.proto len) payload later
         → let there = with_address new.end new.addr h in IsRightOver (pseudo_header4 there.src there.dst h.proto len)
-            (turned_segment new h proto l4 payload) later }
+        (turned_segment new h proto l4 payload) later }
 {}
 
 /// The sum of a turned ICMP message is right, whatever is in its body.

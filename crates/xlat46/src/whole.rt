@@ -101,9 +101,7 @@ pub fn whole46(
     ensures { (p : Parts4) → HasNoTcpUdpCause4 p packet.now → IfOk result (λ octets. octets ≡ packet46 p src dst ports) }
 {
     let head = Head4::accepted(packet);
-    let Some(proto) = Proto::of4(head.proto) else {
-        unreachable!();
-    };
+    let proto = Proto::of_segment(head.proto);
     let payload = head.payload(packet);
     let segment = Segment {
         proto,

@@ -86,9 +86,7 @@ pub fn whole64(
     ensures { (p : Parts6) → HasNoTcpUdpCause6 p packet.now → IfOk result (λ octets. octets ≡ packet64 p src dst ports id) }
 {
     let head = Head6::accepted(packet);
-    let Some(proto) = Proto::of6(head.upper) else {
-        unreachable!();
-    };
+    let proto = Proto::of_segment(head.upper);
     let payload = head.payload(packet);
     let segment = Segment {
         proto,
