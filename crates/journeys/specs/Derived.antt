@@ -44,7 +44,7 @@ use Rattle.domain_core.specs.declared.journey.HopNote.{HopNote}
 use Rattle.domain_core.specs.declared.history.EdgeNote.{EdgeNote}
 use Rattle.domain_core.specs.declared.history.StripeNote.{StripeNote}
 use Rattle.domain_core.specs.declared.trace.Trace.{Trace}
-use Rattle.journeys.specs.Waiting.{Stand, edge, relay, Waiting, Domain, domain_of, onward, start_of}
+use Rattle.journeys.specs.Waiting.{Stand, at_edge, at_relay, Waiting, Domain, domain_of, onward, start_of}
 use Rattle.journeys.specs.Answers.{and_then, note_of, edge_entry, stripe_entry, named_at_edge, named_at_relay}
 
 -- what packets are derived from: a trace, with the setup and the script that it is of
@@ -85,11 +85,11 @@ abbrev pub relay_node : Setup → ℕ → ℕ → Relay
 relay_node setup rec seen =
     relay_at (rules_in setup seen) (dmr_of setup.book) (record { relay4 = setup.relay; mtus = setup.mtus }) (id_of rec)
 
--- ---- what one hop makes, by parts: of the packet itself, and of each parcel that it frees. A part is open as long as the
+-- ---- what one hop makes, by parts: of the packet itself, and of each parcel that it frees. A part is untold as long as the
 -- parcel's packet isn't derived.
 pub data Part : Type 0 where
   made : Hop → Part
-  open : Part
+  untold : Part
 
 -- how a node frees what waited: whether a hop's packet waited at the same table, and what becomes of its octets
 pub record Freeing : Type 1 where
@@ -102,7 +102,7 @@ IsThere trace who = (note : HopNote) × (note_of trace who.rec who.hop ≡ Some 
 
 -- the packet of a hop that waited elsewhere is passed over
 abbrev pub IsPartOf : Freeing → Who → Option Waiting → Part → Type 0
-IsPartOf freeing who None part = part ≡ open
+IsPartOf freeing who None part = part ≡ untold
 IsPartOf freeing who (Some w) part =
     ((freeing.Waited who w → ⊥) × (part ≡ made nothing))
     ⊎ (freeing.Waited who w × ((hop : Hop) × freeing.Becomes w.octets hop × (part ≡ made hop)))
@@ -139,7 +139,7 @@ pub record EdgeAt : Type 0 where
 -- what waited there came the same way; octets that are no later fragment are passed over
 abbrev pub freeing_edge : EdgeAt → Answer → Freeing
 freeing_edge at answer = record {
-  Waited = λ who w. w.stand ≡ edge at.number at.way;
+  Waited = λ who w. w.stand ≡ at_edge at.number at.way;
   Becomes = λ octets hop. AreFreed (IsLaterAt at.way) (Becomes at.node at.way answer) (alone octets) hop;
 }
 
@@ -187,7 +187,7 @@ FreesFrom relay false ports parcels hop = AreFreed4 relay ports parcels hop
 -- what waited there was of the same version, and its hop's line names the same stripe
 abbrev pub freeing_relay : Trace → RelayAt → Ports → Freeing
 freeing_relay trace at ports = record {
-  Waited = λ who w. (w.stand ≡ relay at.six)
+  Waited = λ who w. (w.stand ≡ at_relay at.six)
       × ((note : HopNote) × (note_of trace who.rec who.hop ≡ Some note) × (note.stripe ≡ at.stripe));
   Becomes = λ octets hop. FreesFrom at.relay at.six ports (alone octets) hop;
 }
@@ -240,8 +240,8 @@ abbrev pub AreAtStand : Told → List Packet → ℕ → Waiting → HopNote →
 AreAtStand told known rec w note parts = by w.stand
   where
     by : Stand → Type 0
-    by (edge number way) = AreAtLine told known rec (number, way) (slice_get told.setup.edges number) w.octets note parts
-    by (relay six) =
+    by (at_edge number way) = AreAtLine told known rec (number, way) (slice_get told.setup.edges number) w.octets note parts
+    by (at_relay six) =
         AreAtRelay told known (record { relay = relay_node told.setup rec note.seen; six = six; stripe = note.stripe }) w.octets note parts
 
 -- a hop that its record lacks in the trace gives nothing
@@ -251,13 +251,13 @@ AreOfHop told known rec w (Some note) parts = AreAtStand told known rec w note p
 
 -- ---- the packets of a record: its own, and then what its hops send on, first in first out
 
--- what a part sends on from where its packet stood; nothing is known of what an open one sends
+-- what a part sends on from where its packet stood; nothing is known of what an untold one sends
 abbrev pub sent_on : Domain → Stand → List Out → List (Option Waiting)
 sent_on domain here outs = map Some (filter_map (onward domain here) outs)
 
 abbrev pub sent_by : Domain → Stand → Part → List (Option Waiting)
 sent_by domain here (made hop) = sent_on domain here hop.outs
-sent_by domain here open = None ∷ []
+sent_by domain here untold = None ∷ []
 
 abbrev pub sent_by_all : Domain → Stand → List Part → List (Option Waiting)
 sent_by_all domain here parts = flat_map (sent_by domain here) parts

@@ -1,6 +1,6 @@
 -- The trace of one worker: it takes the items of the script in their order and makes one hop after the other, each with the
 -- number of changes before its record. So the entries of a history stand in the order of the hops that asked.
-use Rattle.std.specs.Prelude.{◌≡◌, ◌≢◌, ◌⊎◌, ℕ, suc, ◌<◌, ◌+◌, ◌==◌, true, false, List, [], ◌∷◌, ◌++◌, map, length, slice_get, Option, Some, None}
+use Rattle.std.specs.Prelude.{◌≡◌, ◌≢◌, ◌⊎◌, ℕ, zero, suc, Bool, ◌<◌, ◌+◌, ◌==◌, true, false, List, [], ◌∷◌, ◌++◌, map, length, slice_get, Option, Some, None}
 use Rattle.std.specs.List.{filter, flat_map, All}
 use Rattle.octets.specs.declared.cause.Cause.{Cause}
 use Rattle.octets.specs.declared.parcel.Parcel.{Parcel}
@@ -35,7 +35,7 @@ use Rattle.domain_core.specs.declared.history.StripeNote.{StripeNote}
 use Rattle.domain_core.specs.declared.trace.TraceItem.{TraceItem}
 use Rattle.domain_core.specs.declared.trace.TraceItem.TheVariants.{Record, Live, Still}
 use Rattle.domain_core.specs.Form.{relay as relay_number}
-use Rattle.journeys.specs.Waiting.{Stand, edge, relay, Waiting}
+use Rattle.journeys.specs.Waiting.{Stand, at_edge, at_relay, Waiting}
 use Rattle.journeys.specs.Derived.{Told, Packet, packets_of, IsDerivation, HasAll}
 
 -- the rules of a generation as the machine sees them, and those of all generations
@@ -43,7 +43,7 @@ abbrev pub generation : Setup → ℕ → Generation
 generation setup number = record { rules = rules_in setup number; dmr = dmr_of setup.book; number = number }
 
 abbrev pub generations_to : Setup → ℕ → List Generation
-generations_to setup 0 = generation setup 0 ∷ []
+generations_to setup zero = generation setup 0 ∷ []
 generations_to setup (suc number) = generations_to setup number ++ generation setup (suc number) ∷ []
 
 abbrev pub generations : Setup → List Generation
@@ -60,8 +60,8 @@ edge_start setup number line = record {
 -- ---- items: worker 0 takes each, and each hop sees the changes before its record
 
 abbrev pub node_number : Stand → ℕ
-node_number (edge number way) = number
-node_number (relay six) = relay_number
+node_number (at_edge number way) = number
+node_number (at_relay six) = relay_number
 
 -- a record's hops take these packets, in this generation
 abbrev pub AreNotes : ℕ → List Waiting → List HopNote → Type 0
@@ -131,21 +131,31 @@ pub record IsEntryOf (made : HopMade) (ask : Ask) (entry : Entry) : Type 0 where
   pub now : entry.now ≡ made.time
   pub asked : entry.ask ≡ ask
 
--- The entries of the hops at an edge, one each that asks, from this place on. A hop whose packet is dropped before names none.
+-- A hop at this edge names no place where its packet is dropped before anything is asked.
+abbrev pub IsUnasked : HopMade → Way → Type 0
+IsUnasked made way =
+    (made.note.stripe ≡ None) × (made.note.place ≡ None) × ((cause : Cause) × IsDroppedAt way cause made.taken.octets)
+
+-- and else the place of its entry, which comes before these others
+abbrev pub IsAsked : HopMade → Way → ℕ → List Entry → List Entry → Type 0
+IsAsked made way place others entries =
+    (made.note.stripe ≡ None) × (made.note.place ≡ Some place)
+    × ((ask : Ask) × (entry : Entry) × IsAsk way made.taken.octets ask × IsEntryOf made ask entry × (entries ≡ entry ∷ others))
+
+-- What a hop adds to the entries of an edge, where the first says what stands from this place on without an entry of it, and the
+-- second what stands behind one.
+abbrev pub AddsAtEdge : ℕ → ℕ → HopMade → (List Entry → Type 0) → (List Entry → Type 0) → Stand → List Entry → Type 0
+AddsAtEdge number place made From Behind (at_relay six) entries = From entries
+AddsAtEdge number place made From Behind (at_edge other way) entries =
+    ((other ≢ number) × From entries)
+    ⊎ (((other ≡ number) × IsUnasked made way × From entries)
+    ⊎ ((other ≡ number) × ((others : List Entry) × Behind others × IsAsked made way place others entries)))
+
+-- the entries of the hops at an edge, one each that asks, from this place on
 abbrev pub AreEdgeEntries : ℕ → ℕ → List HopMade → List Entry → Type 0
 AreEdgeEntries number place [] entries = entries ≡ []
-AreEdgeEntries number place (made ∷ hops) entries = by made.taken.stand
-  where
-    by : Stand → Type 0
-    by (relay six) = AreEdgeEntries number place hops entries
-    by (edge other way) =
-        ((other ≢ number) × AreEdgeEntries number place hops entries)
-        ⊎ (((other ≡ number) × (made.note.stripe ≡ None) × (made.note.place ≡ None)
-            × ((cause : Cause) × IsDroppedAt way cause made.taken.octets) × AreEdgeEntries number place hops entries)
-        ⊎ ((other ≡ number) × (made.note.stripe ≡ None) × (made.note.place ≡ Some place)
-            × ((ask : Ask) × (entry : Entry) × (others : List Entry)
-                × IsAsk way made.taken.octets ask × IsEntryOf made ask entry
-                × AreEdgeEntries number (suc place) hops others × (entries ≡ entry ∷ others))))
+AreEdgeEntries number place (made ∷ hops) entries =
+    AddsAtEdge number place made (AreEdgeEntries number place hops) (AreEdgeEntries number (suc place) hops) made.taken.stand entries
 
 -- what the trace tells of an edge: a good history of the asks of its hops
 pub record IsEdgeHistory (setup : Setup) (hops : List HopMade) (number : ℕ) (notes : List EdgeNote) : Type 0 where
@@ -183,22 +193,27 @@ pub record IsStripeEntryOf (made : HopMade) (ask : FragAsk) (entry : StripeEntry
 abbrev pub AsksNothing : Bool → List ℕ → Type 0
 AsksNothing six octets = ((cause : Cause) × IsDroppedFrom six cause octets) ⊎ AsksFrom six octets None
 
+-- Another names its stripe, and there the place of its entry, which comes before these others.
+abbrev pub IsAskedAt : HopMade → FragAsk → ℕ → List StripeEntry → List StripeEntry → Type 0
+IsAskedAt made ask place others entries =
+    (made.note.place ≡ Some place)
+    × ((entry : StripeEntry) × IsStripeEntryOf made ask entry × (entries ≡ entry ∷ others))
+
+-- what a hop adds to the entries of a stripe, as at an edge
+abbrev pub AddsAtStripe : ℕ → ℕ → HopMade → (List StripeEntry → Type 0) → (List StripeEntry → Type 0) → Stand → List StripeEntry → Type 0
+AddsAtStripe number place made From Behind (at_edge other way) entries = From entries
+AddsAtStripe number place made From Behind (at_relay six) entries =
+    (AsksNothing six made.taken.octets × (made.note.stripe ≡ None) × (made.note.place ≡ None) × From entries)
+    ⊎ ((ask : FragAsk) × AsksFrom six made.taken.octets (Some ask) × (made.note.stripe ≡ Some (stripe (key_of ask)))
+        × (((stripe (key_of ask) ≢ number) × From entries)
+        ⊎ ((stripe (key_of ask) ≡ number)
+            × ((others : List StripeEntry) × Behind others × IsAskedAt made ask place others entries))))
+
 -- the entries of the hops at the relay that ask at this stripe, from this place on
 abbrev pub AreStripeEntries : ℕ → ℕ → List HopMade → List StripeEntry → Type 0
 AreStripeEntries number place [] entries = entries ≡ []
-AreStripeEntries number place (made ∷ hops) entries = by made.taken.stand
-  where
-    by : Stand → Type 0
-    by (edge other way) = AreStripeEntries number place hops entries
-    by (relay six) =
-        (AsksNothing six made.taken.octets × (made.note.stripe ≡ None) × (made.note.place ≡ None)
-            × AreStripeEntries number place hops entries)
-        ⊎ ((ask : FragAsk) × AsksFrom six made.taken.octets (Some ask) × (made.note.stripe ≡ Some (stripe (key_of ask)))
-            × (((stripe (key_of ask) ≢ number) × AreStripeEntries number place hops entries)
-            ⊎ ((stripe (key_of ask) ≡ number) × (made.note.place ≡ Some place)
-                × ((entry : StripeEntry) × (others : List StripeEntry)
-                    × IsStripeEntryOf made ask entry
-                    × AreStripeEntries number (suc place) hops others × (entries ≡ entry ∷ others)))))
+AreStripeEntries number place (made ∷ hops) entries =
+    AddsAtStripe number place made (AreStripeEntries number place hops) (AreStripeEntries number (suc place) hops) made.taken.stand entries
 
 pub record IsStripeHistory (hops : List HopMade) (number : ℕ) (notes : List StripeNote) : Type 0 where
   pub entries : List StripeEntry

@@ -17,8 +17,8 @@ use Rattle.mapt_setup.specs.declared.setup.Setup.{Setup}
 
 -- at the edge of this number, by the way that the packet came there; or at the relay, as a packet of IPv6 or else of IPv4
 pub data Stand : Type 0 where
-  edge : ℕ → Way → Stand
-  relay : (six : Bool) → Stand
+  at_edge : ℕ → Way → Stand
+  at_relay : (six : Bool) → Stand
 
 -- a packet that a node is to take
 pub record Waiting : Type 0 where
@@ -39,9 +39,9 @@ domain_of setup = record { prefixes = map (λ (e : EdgeLine). e.prefix) setup.ed
 -- An IPv6 destination is that of the edge whose prefix has it, of the relay inside the default mapping rule, and else of no
 -- node. The first of these prefixes is the edge's of this number.
 abbrev pub node_from : ℕ → List Prefix6 → Dmr → ℕ → Option Stand
-node_from number [] dmr dst = if has_addr6 dmr.prefix dst then Some (relay true) else None
+node_from number [] dmr dst = if has_addr6 dmr.prefix dst then Some (at_relay true) else None
 node_from number (p ∷ prefixes) dmr dst =
-    if has_addr6 p dst then Some (edge number Access) else node_from (suc number) prefixes dmr dst
+    if has_addr6 p dst then Some (at_edge number Access) else node_from (suc number) prefixes dmr dst
 
 abbrev pub node6 : Domain → ℕ → Option Stand
 node6 domain dst = node_from 0 domain.prefixes domain.dmr dst
@@ -56,8 +56,8 @@ over_access domain octets = option_map (at_stand octets) (node6 domain (destinat
 
 -- what turns stands at its node once more
 abbrev pub turned_at : Stand → Stand
-turned_at (edge number way) = edge number Turned
-turned_at (relay six) = relay false
+turned_at (at_edge number way) = at_edge number Turned
+turned_at (at_relay six) = at_relay false
 
 -- Where a packet goes that a node sends which took one here: on to a node, or out of the domain.
 abbrev pub onward : Domain → Stand → Out → Option Waiting
@@ -73,7 +73,7 @@ is_header6 octets = nat_le 40 (length octets) && nat_eq (octet octets 0 / 16) 6
 -- Where a record starts: at the edge of its LAN, at the relay, or at the node of its destination. Octets of the access network
 -- that are no header of IPv6 go to the relay, which says what is wrong with them.
 abbrev pub start_of : Domain → Side → List ℕ → Option Waiting
-start_of domain (LanOf number) octets = Some (at_stand octets (edge number Lan))
+start_of domain (LanOf number) octets = Some (at_stand octets (at_edge number Lan))
 start_of domain FromAccess octets =
-    if is_header6 octets then over_access domain octets else Some (at_stand octets (relay true))
-start_of domain FromCore octets = Some (at_stand octets (relay false))
+    if is_header6 octets then over_access domain octets else Some (at_stand octets (at_relay true))
+start_of domain FromCore octets = Some (at_stand octets (at_relay false))
