@@ -52,7 +52,7 @@ pub returns-clause-once : goal.returns-clause-once
 returns-clause-once c =
     let counted = params_count c.loop-option.subs.items c.loop-option.invariant.fits in
     let all = ap (count_by (has_code 93)) c.loop-option.invariant.subs in
-    rw c.of.ensures (omega (arith, counted, all, c.loop-option.invariant.once, once_most c.loop-option.second))
+    rw c.from_vec.ensures (omega (arith, counted, all, c.loop-option.invariant.once, once_most c.loop-option.second))
 
 pub long_sub-requires-clause-place : goal.long_sub-requires-clause-place
 long_sub-requires-clause-place c =
