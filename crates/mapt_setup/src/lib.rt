@@ -24,7 +24,7 @@ mod shapes;
 mod spelled;
 mod tables;
 
-pub use capture::{Capture, Side, captures_fit};
+pub use capture::{Capture, MOST_RECORDS, Side, captures_fit};
 pub use edge::{EdgeLine, Edges};
 pub use equal::equal_values_are_the_same;
 pub use fault::{SetupCause, SetupFault};
