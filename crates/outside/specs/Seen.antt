@@ -23,15 +23,6 @@ pub record SinkSeen : Type 0 where
   pub written : Option (List ℕ)
   pub faults : ℕ
 
--- a folder by its meanings
-abbrev pub folder_seen : {F : Type 0} → (F → Option Files) → (F → ℕ) → (F → ℕ) → (F → Option Failure) → F → FolderSeen
-folder_seen files handed faults last folder =
-    record { files = files folder; handed = handed folder; faults = faults folder; last = last folder }
-
--- a sink by its meanings
-abbrev pub sink_seen : {K : Type 0} → (K → Option (List ℕ)) → (K → ℕ) → K → SinkSeen
-sink_seen written faults sink = record { written = written sink; faults = faults sink }
-
 -- a call of this file failed, and nothing else is seen of it but what the file holds
 pub record CallFailed (old new : FolderSeen) (file : FileId) (operation : Operation) : Type 0 where
   pub rose : Rose old.faults new.faults

@@ -80,13 +80,7 @@ impl Folder for MemFolder {
     ghost use Rattle.outside.specs.Files.{content_of, FillsOrEnds};
     ghost use Rattle.outside.specs.InMemory.{memory_files, memory_seen, failing_writes, next_write, FailsToRead, CountsRead, CountsWrite};
 
-    ghost files = { λ s. Some s.store };
-
-    ghost handed = { λ s. s.handed };
-
-    ghost faults = { λ s. s.faults };
-
-    ghost last = { λ s. s.last };
+    ghost seen = { memory_seen };
 
     fn read_at(
         &mut self,

@@ -110,13 +110,7 @@ impl<R: Files + Drop> RealFolder<R> {
 impl<R: Files + Drop> Folder for RealFolder<R> {
     ghost use Rattle.std.specs.Prelude.{None};
 
-    ghost files = { λ s. None };
-
-    ghost handed = { λ s. s.handed };
-
-    ghost faults = { λ s. s.faults };
-
-    ghost last = { λ s. s.last };
+    ghost seen = { λ s. record { files = None; handed = s.handed; faults = s.faults; last = s.last } };
 
     fn read_at(
         &mut self,

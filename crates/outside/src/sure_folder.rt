@@ -53,13 +53,7 @@ impl Folder for SureFolder {
     ghost use Rattle.outside.specs.Seen.{ReadEnds};
     ghost use Rattle.outside.specs.InMemory.{sure_files, sure_seen};
 
-    ghost files = { λ s. Some s.store };
-
-    ghost handed = { λ s. s.handed };
-
-    ghost faults = { λ s. 0 };
-
-    ghost last = { λ s. None };
+    ghost seen = { sure_seen };
 
     fn read_at(
         &mut self,
