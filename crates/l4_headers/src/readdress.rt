@@ -1,7 +1,7 @@
 //! Transport headers of a packet that gets other addresses and ports (RFC 7915, sections 4.5 and 5.5).
-ghost use Rattle.std.specs.Prelude.{◌≡◌, ◌≢◌, ◌+◌, ◌-◌, ◌^◌, ◌<◌, ◌≤◌, ◌++◌, IfOk, length, drop};
+ghost use Rattle.std.specs.Prelude.{◌≡◌, ◌≢◌, ◌+◌, ◌^◌, ◌<◌, ◌≤◌, ◌++◌, IfOk, length};
 ghost use Rattle.octets.specs.declared.proto.Proto.TheVariants.{Tcp, Icmp};
-ghost use Rattle.octets.specs.Field.{word, part, in_word};
+ghost use Rattle.octets.specs.Field.{word, with_word};
 ghost use Rattle.l4_headers.specs.Transport.{header_octets, with_l4};
 ghost use Rattle.l4_headers.specs.Readdressed.{as_written, port_words, readdressed_sum, computed_udp_sum};
 
@@ -9,8 +9,10 @@ use crate::{L4, Ports, tcp, udp};
 use inet_sum::{adjust, as_udp, check_of, sum};
 use octets::{Bytes, NoMemory, Proto};
 
-/// Where the ports end, in both headers.
-const PORTS_END: usize = 4;
+/// Where the ports stand, in both headers.
+const SRC: usize = 0;
+
+const DST: usize = 2;
 
 /// A check sum as its protocol writes it: UDP has 65535 in the place of 0 (RFC 768).
 fn as_written(proto: Proto, sum: u16) -> u16
@@ -55,8 +57,10 @@ pub fn computed_udp_sum(pseudo: u64, datagram: &[u8], ports: Ports) -> u16
     as_udp(check_of(pseudo + others + port_words(ports)))
 }
 
-/// The octets of `front`, followed by a payload with these ports at its front and this sum at its place.
-fn pieces(
+/// The octets of `front`, followed by a payload with these ports at its front and this sum at its place. Where `front` has
+/// room for the payload, it takes no more memory.
+#[tactic(auto, using(crate::proofs::Behind::three_behind))]
+fn readdressed(
     front: Bytes,
     payload: &[u8],
     sum_at: usize,
@@ -65,14 +69,14 @@ fn pieces(
 ) -> Result<Bytes, NoMemory>
     requires behind { 4 ≤ sum_at }
     requires stands { sum_at + 2 ≤ length payload.now }
-    ensures { IfOk result (λ octets. octets ≡ front ++ (in_word ports.src ++ (in_word ports.dst ++ (part payload.now 4 (sum_at - 4) ++ (in_word sum ++ drop (sum_at + 2) payload.now))))) }
+    ensures { IfOk result (λ octets. octets ≡ front ++ with_word sum_at sum (with_word DST ports.dst (with_word SRC ports.src payload.now))) }
 {
+    let at = front.as_slice().len();
     let mut octets = front;
-    octets.extend(&ports.src.to_be_bytes())?;
-    octets.extend(&ports.dst.to_be_bytes())?;
-    octets.extend(&payload[PORTS_END..sum_at])?;
-    octets.extend(&sum.to_be_bytes())?;
-    octets.extend(&payload[sum_at + 2..])?;
+    octets.extend(payload)?;
+    octets.set_word(at + SRC, ports.src);
+    octets.set_word(at + DST, ports.dst);
+    octets.set_word(at + sum_at, sum);
     Ok(octets)
 }
 
@@ -89,8 +93,8 @@ pub fn followed_by(
     ensures { IfOk result (λ octets. octets ≡ front ++ with_l4 proto payload.now ports sum) }
 {
     match proto {
-        Proto::Tcp => pieces(front, payload, tcp::SUM, ports, sum),
-        Proto::Udp => pieces(front, payload, udp::SUM, ports, sum),
+        Proto::Tcp => readdressed(front, payload, tcp::SUM, ports, sum),
+        Proto::Udp => readdressed(front, payload, udp::SUM, ports, sum),
         Proto::Icmp => unreachable!(),
     }
 }
@@ -106,5 +110,5 @@ pub fn followed_by_cut_tcp(
     requires { 18 ≤ length segment.now }
     ensures { IfOk result (λ octets. octets ≡ front ++ with_l4 Tcp segment.now ports sum) }
 {
-    pieces(front, segment, tcp::SUM, ports, sum)
+    readdressed(front, segment, tcp::SUM, ports, sum)
 }
