@@ -82,7 +82,7 @@ impl OneEdge {
         ensures found { IfOk result (λ found. IfSome found (λ ts. AreServed (edge_in self.now) records.now ts.items)) }
         ensures lacking { IfOk result (λ found. IfNone found ((ts : List Packet) → AreServed (edge_in self.now) records.now ts → ⊥)) }
     {
-        let mut packets = Vec::new(alloc);
+        let mut packets = Vec::with_capacity(alloc, records.len())?;
         for record in records {
             match self.taken(record.bytes.as_slice()) {
                 Some(packet) => packets.push(packet)?,
