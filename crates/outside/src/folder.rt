@@ -25,7 +25,8 @@ pub trait Folder {
         buf: &mut [u8],
     ) -> Result<usize, OutFault>
         ensures within { IfOk result (λ n. n ≤ length buf.old) }
-        ensures ends { ReadEnds (seen self.old) (seen self.new) file name.now offset buf.new result };
+        ensures ends { ReadEnds (seen self.old) (seen self.new)
+            (record { file = file; name = name.now; offset = offset }) buf.new result };
 
     /// Makes the named file hold exactly these octets. After a failure that file may hold anything.
     ///
@@ -37,5 +38,6 @@ pub trait Folder {
         name: &str,
         bytes: &[u8],
     ) -> Result<(), OutFault>
-        ensures ends { WriteEnds (seen self.old) (seen self.new) file name.now bytes.now result };
+        ensures ends { WriteEnds (seen self.old) (seen self.new)
+            (record { file = file; name = name.now; octets = bytes.now }) result };
 }

@@ -64,7 +64,8 @@ impl Folder for SureFolder {
         buf: &mut [u8],
     ) -> Result<usize, OutFault>
         ensures within { IfOk result (λ n. n ≤ length buf.old) }
-        ensures ends { ReadEnds (sure_seen self.old) (sure_seen self.new) file name.now offset buf.new result }
+        ensures ends { ReadEnds (sure_seen self.old) (sure_seen self.new)
+            (record { file = file; name = name.now; offset = offset }) buf.new result }
         // It fills the buffer or reaches the end of the file, and leaves the octets behind.
         ensures fills { IfOk result (λ n. FillsOrEnds (content_of (sure_files self.old) name.now) offset n (length buf.old)) }
         ensures rest { IfOk result (λ n. drop n buf.new ≡ drop n buf.old) }
