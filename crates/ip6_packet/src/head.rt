@@ -139,10 +139,7 @@ impl Head6 {
         ensures in_range { OnOk result (IsInRange self.now) }
         ensures frag_in_range { OnOk result (FitsFrag self.now.frag) }
     {
-        let headers = HEADER_LEN + match self.frag {
-            None => 0,
-            Some(_) => FRAGMENT_LEN,
-        };
+        let headers = self.start as usize;
         let mut octets = Bytes::with_room(alloc, headers.saturating_add(room))?;
         octets.extend(&self.header())?;
         self.put_fragment(&mut octets)?;
