@@ -1,4 +1,4 @@
-ghost use Rattle.std.specs.Prelude.{◌≡◌, ◌+◌, ◌<◌, ◌≤◌, length, IfOk, false};
+ghost use Rattle.std.specs.Prelude.{◌≡◌, ◌+◌, ◌<◌, ◌≤◌, length, IfOk, OnOk, false};
 ghost use Rattle.ip4_packet.specs.Written.{written4, header4, header_with, fragment_field, IsInRange};
 ghost use Rattle.ip4_packet.specs.Fragment.{is_fragment};
 ghost use Rattle.ip4_packet.specs.Grammar.{Is4};
@@ -100,6 +100,17 @@ impl Head4 {
         self.mf || self.offset != 0
     }
 
+    /// The header alone as `write` has it, in memory with room for so many octets of payload behind it.
+    pub fn write_front(&self, alloc: Global, room: usize) -> Result<Bytes, NoMemory>
+        requires { self.now.offset < 8192 }
+        ensures written { IfOk result (λ octets. octets ≡ header4 self.now) }
+        ensures in_range { OnOk result (IsInRange self.now) }
+    {
+        let mut octets = Bytes::with_room(alloc, HEADER_LEN.saturating_add(room))?;
+        octets.extend(&self.header())?;
+        Ok(octets)
+    }
+
     /// The packet with these fields and this payload, in the one form that is written (RFC 791,
     /// section 3.1): no options, the reserved flag 0, the right header sum, and nothing after the
     /// payload. `total` may be more than the octets that stand: so is an embedded packet written that
@@ -113,8 +124,7 @@ impl Head4 {
         // What is written is read again as the same fields and payload.
         ensures again { IsSound4 self.now payload.now → IfOk result (λ octets. Is4 self.now payload.now octets × HasNoHeaderCause4 octets) }
     {
-        let mut octets = Bytes::new(alloc);
-        octets.extend(&self.header())?;
+        let mut octets = self.write_front(alloc, payload.len())?;
         octets.extend(payload)?;
         Ok(octets)
     }

@@ -132,6 +132,20 @@ impl Head6 {
         self.more_fragments() || self.fragment_offset() != 0
     }
 
+    /// The headers alone as `write` has them, in memory with room for so many octets of payload behind them.
+    pub fn write_front(&self, alloc: Global, room: usize) -> Result<Bytes, NoMemory>
+        requires { IsPlaced self.now.start self.now.length self.now.frag }
+        ensures written { IfOk result (λ octets. octets ≡ fixed_header self.now ++ fragment_part self.now.upper self.now.frag) }
+        ensures in_range { OnOk result (IsInRange self.now) }
+        ensures frag_in_range { OnOk result (FitsFrag self.now.frag) }
+    {
+        let headers = self.start as usize;
+        let mut octets = Bytes::with_room(alloc, headers.saturating_add(room))?;
+        octets.extend(&self.header())?;
+        self.put_fragment(&mut octets)?;
+        Ok(octets)
+    }
+
     /// The packet with these fields and this payload, in the one form that is written (RFC 8200,
     /// sections 3 and 4.5): no flow label, no extension header but the Fragment Header of `frag`, and
     /// nothing after the payload. `length` may be more than the payload has octets: so is an embedded
@@ -147,9 +161,7 @@ impl Head6 {
         // What is written is read again as the same fields and payload.
         ensures again { IsSound6 self.now payload.now → IfOk result (λ octets. Is6 self.now payload.now octets × HasNoHeaderCause6 octets) }
     {
-        let mut octets = Bytes::new(alloc);
-        octets.extend(&self.header())?;
-        self.put_fragment(&mut octets)?;
+        let mut octets = self.write_front(alloc, payload.len())?;
         octets.extend(payload)?;
         Ok(octets)
     }

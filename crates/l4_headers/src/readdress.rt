@@ -1,11 +1,11 @@
 //! Transport headers of a packet that gets other addresses and ports (RFC 7915, sections 4.5 and 5.5).
-ghost use Rattle.std.specs.Prelude.{◌≡◌, ◌≢◌, ◌+◌, ◌-◌, ◌^◌, ◌<◌, ◌≤◌, ◌++◌, IfOk, length, drop};
+ghost use Rattle.std.specs.Prelude.{◌≡◌, ◌≢◌, ◌+◌, ◌^◌, ◌<◌, ◌≤◌, ◌++◌, IfOk, length};
 ghost use Rattle.octets.specs.declared.proto.Proto.TheVariants.{Tcp, Icmp};
-ghost use Rattle.octets.specs.Field.{word, part, in_word};
+ghost use Rattle.octets.specs.Field.{word, with_word};
 ghost use Rattle.l4_headers.specs.Transport.{header_octets, with_l4};
 ghost use Rattle.l4_headers.specs.Readdressed.{as_written, port_words, readdressed_sum, computed_udp_sum};
 
-use crate::place::{PORTS_END, TCP_SUM_AT, UDP_SUM_AT};
+use crate::place::{DESTINATION_PORT_AT, SOURCE_PORT_AT, TCP_SUM_AT, UDP_SUM_AT};
 use crate::{L4, Ports, udp};
 use inet_sum::{adjust, as_udp, check_of, sum};
 use octets::{Bytes, NoMemory, Proto};
@@ -53,8 +53,10 @@ pub fn computed_udp_sum(pseudo: u64, datagram: &[u8], ports: Ports) -> u16
     as_udp(check_of(pseudo + others + port_words(ports)))
 }
 
-/// The octets of `front`, followed by a payload with these ports at its front and this sum at its place.
-fn pieces(
+/// The octets of `front`, followed by a payload with these ports at its front and this sum at its place. Where `front` has
+/// room for the payload, it takes no more memory.
+#[tactic(auto, using(crate::proofs::Behind::three_behind))]
+fn readdressed(
     front: Bytes,
     payload: &[u8],
     sum_at: usize,
@@ -64,15 +66,14 @@ fn pieces(
     requires behind { 4 ≤ sum_at }
     requires stands { sum_at + 2 ≤ length payload.now }
     ensures { IfOk result (λ octets. octets
-        ≡ front ++ (in_word ports.src ++
-        (in_word ports.dst ++ (part payload.now 4 (sum_at - 4) ++ (in_word sum ++ drop (sum_at + 2) payload.now))))) }
+        ≡ front ++ with_word sum_at sum (with_word 2 ports.dst (with_word 0 ports.src payload.now))) }
 {
+    let at = front.as_slice().len();
     let mut octets = front;
-    octets.extend(&ports.src.to_be_bytes())?;
-    octets.extend(&ports.dst.to_be_bytes())?;
-    octets.extend(&payload[PORTS_END..sum_at])?;
-    octets.extend(&sum.to_be_bytes())?;
-    octets.extend(&payload[sum_at + 2..])?;
+    octets.extend(payload)?;
+    octets.set_word(at + SOURCE_PORT_AT, ports.src);
+    octets.set_word(at + DESTINATION_PORT_AT, ports.dst);
+    octets.set_word(at + sum_at, sum);
     Ok(octets)
 }
 
@@ -89,8 +90,8 @@ pub fn followed_by(
     ensures { IfOk result (λ octets. octets ≡ front ++ with_l4 proto payload.now ports sum) }
 {
     match proto {
-        Proto::Tcp => pieces(front, payload, TCP_SUM_AT, ports, sum),
-        Proto::Udp => pieces(front, payload, UDP_SUM_AT, ports, sum),
+        Proto::Tcp => readdressed(front, payload, TCP_SUM_AT, ports, sum),
+        Proto::Udp => readdressed(front, payload, UDP_SUM_AT, ports, sum),
         Proto::Icmp => unreachable!(),
     }
 }
@@ -106,5 +107,5 @@ pub fn followed_by_cut_tcp(
     requires { 18 ≤ length segment.now }
     ensures { IfOk result (λ octets. octets ≡ front ++ with_l4 Tcp segment.now ports sum) }
 {
-    pieces(front, segment, TCP_SUM_AT, ports, sum)
+    readdressed(front, segment, TCP_SUM_AT, ports, sum)
 }

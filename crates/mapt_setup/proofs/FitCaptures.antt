@@ -5,11 +5,11 @@ use Rattle.std.specs.List.{All, AllPairs, list_all, list_any}
 use Rattle.std.proofs.lemmas.Bool.{and_parts, leb-true, le-leb, ltb-true, lt-ltb}
 use Rattle.std.proofs.lemmas.List.{get_or-take, get_or_default, length-take-le}
 use Rattle.pcap_files.specs.declared.records.Record.{Record}
-use Rattle.pcap_files.specs.Written.{IsWritable}
+use Rattle.pcap_files.specs.Written.{IsWritable, is_writable}
 use Rattle.mapt_setup.specs.declared.capture.Capture.{Capture}
 use Rattle.mapt_setup.specs.declared.setup.Setup.{Setup}
 use Rattle.mapt_setup.specs.Beside.{first_after}
-use Rattle.mapt_setup.specs.Fit.{is_side_of, same_side, has_side_of, is_writable, is_fitting, FitsSetup}
+use Rattle.mapt_setup.specs.Fit.{is_side_of, same_side, has_side_of, is_fitting, FitsSetup}
 use Rattle.mapt_setup.proofs.FirstBeside.{none-is, is-none}
 use Rattle.mapt_setup.proofs.ValidForwards.{all_fail}
 

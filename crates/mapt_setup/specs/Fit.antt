@@ -1,8 +1,7 @@
 -- Captures that fit a setup.
-use Rattle.std.specs.Prelude.{◌≤◌, ℕ, ◌==◌, ◌+◌, ◌*◌, ◌^◌, ◌&&◌, nat_le, nat_lt, IsTrue, is_none, Bool, true, false, List, length}
+use Rattle.std.specs.Prelude.{◌≤◌, ℕ, ◌==◌, ◌&&◌, nat_le, nat_lt, IsTrue, is_none, Bool, true, false, List, length}
 use Rattle.std.specs.List.{All, AllPairs, list_any, list_all, sum_by}
-use Rattle.pcap_files.specs.declared.records.Record.{Record}
-use Rattle.pcap_files.specs.Written.{IsWritable}
+use Rattle.pcap_files.specs.Written.{IsWritable, is_writable}
 use Rattle.mapt_setup.specs.declared.capture.Side.{Side}
 use Rattle.mapt_setup.specs.declared.capture.Side.TheVariants.{Lan, Access, Core}
 use Rattle.mapt_setup.specs.declared.capture.Capture.{Capture}
@@ -38,10 +37,6 @@ records_count captures = sum_by (λ (c : Capture). length c.records) captures
 -- the most that a script has
 abbrev pub most_records : ℕ
 most_records = 200000
-
--- a capture that is written can hold the record
-abbrev pub is_writable : Record → Bool
-is_writable r = nat_le r.time (4294967295 * 1000000 + 4294967295) && nat_lt (length r.bytes) (2 ^ 32)
 
 -- captures fit a setup: each side is one of the setup and stands at most once, there are at most 200,000 records
 -- together, and a capture that is written can hold each of them

@@ -1,19 +1,14 @@
 ghost use Rattle.std.specs.Prelude.{◌≡◌, ◌↔◌, ◌<◌, IsTrue, nat_le, is_none, length, IfSome};
 ghost use Rattle.std.specs.List.{list_all};
+ghost use Rattle.pcap_files.specs.Written.{is_writable};
 ghost use Rattle.mapt_setup.specs.Beside.{first_after};
-ghost use Rattle.mapt_setup.specs.Fit.{is_side_of, same_side, has_side_of, records_count, most_records, is_writable, is_fitting, FitsSetup};
+ghost use Rattle.mapt_setup.specs.Fit.{is_side_of, same_side, has_side_of, records_count, most_records, is_fitting, FitsSetup};
 
 use crate::setup::Setup;
 use pcap_files::{Record, Records};
 
-/// The most records of a script.
-const MOST_RECORDS: usize = 200_000;
-
-/// The greatest time of a record that a capture can hold, in microseconds.
-const MOST_TIME: u64 = 4_294_967_295 * 1_000_000 + 4_294_967_295;
-
-/// The most octets of a packet that a capture can hold.
-const MOST_OCTETS: usize = 4_294_967_295;
+/// The most records of a script: those of all its captures together.
+pub const MOST_RECORDS: u32 = 200_000;
 
 /// Where a capture was made.
 #[derive(Clone, Copy, Debug, PartialEq, Eq)]
@@ -88,7 +83,7 @@ fn first_again(captures: &[Capture]) -> Option<usize>
 fn are_few(captures: &[Capture]) -> bool
     ensures { result ≡ nat_le (records_count captures.now) most_records }
 {
-    let mut left = MOST_RECORDS;
+    let mut left = MOST_RECORDS as usize;
     for capture in captures {
         let count = capture.records.as_slice().len();
         if count > left {
@@ -99,18 +94,11 @@ fn are_few(captures: &[Capture]) -> bool
     true
 }
 
-/// Whether a capture that is written can hold the record.
-fn is_writable(item: &Record) -> bool
-    ensures { result ≡ is_writable item.now }
-{
-    item.time <= MOST_TIME && item.bytes.as_slice().len() <= MOST_OCTETS
-}
-
-/// Whether it can hold each of these.
+/// Whether a capture that is written can hold each of these.
 fn are_writable(records: &[Record]) -> bool
     ensures { result ≡ list_all is_writable records.now }
 {
-    records.iter().all(|item| is_writable(item))
+    records.iter().all(|item| item.is_writable())
 }
 
 /// Whether it can hold each record of each capture.

@@ -13,7 +13,7 @@ mod script;
 mod setup;
 mod shapes;
 
-pub use capture::{Capture, Side, captures_fit};
+pub use capture::{Capture, MOST_RECORDS, Side, captures_fit};
 pub use equal::equal_values_are_the_same;
 pub use forward::{ForwardLine, Forwards};
 pub use laws::{

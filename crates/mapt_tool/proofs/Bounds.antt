@@ -4,13 +4,14 @@ use Rattle.outside.specs.declared.file_id.FileId.{FileId}
 use Rattle.outside.specs.declared.file_id.FileId.TheVariants.{Config, InLan, Options}
 use Rattle.mapt_setup.specs.declared.setup.Setup.{Setup}
 use Rattle.mapt_tool.specs.declared.status.Status.{Status}
-use Rattle.mapt_tool.specs.Course.{IsSetup, Configures, rules_said, owner_said, Replays, Course}
-use Rattle.mapt_tool.specs.Limits.{file_limit, command_limit, limit_of, record_limit}
+use Rattle.mapt_tool.specs.Course.{beside, IsSetup, Configures, rules_said, owner_said, Replays, Course}
+use Rattle.mapt_tool.specs.Limits.{file_limit, command_limit, limit_of}
+use Rattle.mapt_setup.specs.Fit.{most_records}
 use Rattle.mapt_tool.specs.Planned.{Planned}
 use Rattle.mapt_tool.specs.Reading.{Read, Next, gives, wants, octets_of, Answers, Reads, Then}
 use Rattle.pcap_files.specs.Capture.{capture}
 use Rattle.one_edge.specs.Edge.{Edge}
-use Rattle.mapt_tool.specs.Replay.{IsReplayed, IsPlanned, IsPlannedBy, ReplaysLan, ReplaysSetup}
+use Rattle.mapt_tool.specs.Replay.{Target, IsReplayed, IsPlanned, IsPlannedBy, ReplaysLan, ReplaysSetup}
 use Rattle.mapt_tool.specs.Request.{Request, replay, rules, owner, options}
 use Rattle.mapt_tool.proofs.Steps.{octets_of-append}
 
@@ -50,21 +51,21 @@ configures_bounded config =
     then_bounded command_limit (λ text. length text) (Reads Config config (limit_of command_limit)) (λ text. Answers (IsSetup text)) (reads_bounded Config config command_limit) (reads_counted Config config (limit_of command_limit))
     (λ text. answers_bounded (command_limit - length text) (IsSetup text))
 
-lan_bounded : (prefix : List ℕ) (left : ℕ) (e : Edge) (lan : Option (List ℕ)) → IsBounded left (ReplaysLan prefix left e lan)
-lan_bounded prefix left e None = answers_bounded left (IsPlanned prefix e [])
-lan_bounded prefix left e (Some name) =
-    then_bounded left (λ octets. length octets) (Reads (InLan 0) name (limit_of left)) (λ octets. Answers (IsPlannedBy prefix e (capture record_limit octets))) (reads_bounded (InLan 0) name left) (reads_counted (InLan 0) name (limit_of left))
-    (λ octets. answers_bounded (left - length octets) (IsPlannedBy prefix e (capture record_limit octets)))
+lan_bounded : (to : Target) (e : Edge) (lan : Option (List ℕ)) → IsBounded to.left (ReplaysLan to e lan)
+lan_bounded to e None = answers_bounded to.left (IsPlanned to.prefix e [])
+lan_bounded to e (Some name) =
+    then_bounded to.left (λ octets. length octets) (Reads (InLan 0) name (limit_of to.left)) (λ octets. Answers (IsPlannedBy to.prefix e (capture most_records octets))) (reads_bounded (InLan 0) name to.left) (reads_counted (InLan 0) name (limit_of to.left))
+    (λ octets. answers_bounded (to.left - length octets) (IsPlannedBy to.prefix e (capture most_records octets)))
 
-setup_bounded : (prefix : List ℕ) (left : ℕ) (setup : Setup) → IsBounded left (ReplaysSetup prefix left setup)
-setup_bounded prefix left setup =
-    then_bounded left (λ _. 0) (Answers (IsReplayed setup)) (λ x. ReplaysLan prefix left x.edge x.lan) (answers_bounded left (IsReplayed setup)) (nothing_counted (IsReplayed setup))
-    (λ x. subst (λ (n : ℕ). IsBounded n (ReplaysLan prefix left x.edge x.lan)) (omega arith) (lan_bounded prefix left x.edge x.lan))
+setup_bounded : (to : Target) (setup : Setup) → IsBounded to.left (ReplaysSetup to setup)
+setup_bounded to setup =
+    then_bounded to.left (λ _. 0) (Answers (IsReplayed setup)) (λ x. ReplaysLan to x.edge x.lan) (answers_bounded to.left (IsReplayed setup)) (nothing_counted (IsReplayed setup))
+    (λ x. subst (λ (n : ℕ). IsBounded n (ReplaysLan to x.edge x.lan)) (omega arith) (lan_bounded to x.edge x.lan))
 
-text_bounded : (prefix text : List ℕ) (left : ℕ) → IsBounded left (Then (Answers (IsSetup text)) (λ setup. ReplaysSetup prefix left setup))
-text_bounded prefix text left =
-    then_bounded left (λ _. 0) (Answers (IsSetup text)) (λ setup. ReplaysSetup prefix left setup) (answers_bounded left (IsSetup text)) (nothing_counted (IsSetup text))
-    (λ setup. subst (λ (n : ℕ). IsBounded n (ReplaysSetup prefix left setup)) (omega arith) (setup_bounded prefix left setup))
+text_bounded : (text : List ℕ) (to : Target) → IsBounded to.left (Then (Answers (IsSetup text)) (λ setup. ReplaysSetup to setup))
+text_bounded text to =
+    then_bounded to.left (λ _. 0) (Answers (IsSetup text)) (λ setup. ReplaysSetup to setup) (answers_bounded to.left (IsSetup text)) (nothing_counted (IsSetup text))
+    (λ setup. subst (λ (n : ℕ). IsBounded n (ReplaysSetup to setup)) (omega arith) (setup_bounded to setup))
 
 -- what is printed of a configuration reads no further file
 prints_bounded : (config : List ℕ) (IsAnswer : Setup → Result Planned Status → Type 0) (reads : List Read) (file : FileId) (name : List ℕ) (limit : ℕ) → Then (Configures config) (λ setup. Answers (IsAnswer setup)) reads (wants file name limit) → limit_of command_limit ≤ octets_of reads + limit
@@ -73,8 +74,8 @@ prints_bounded config IsAnswer reads file name limit (inr goes) = absurd goes.se
 
 pub course_bounded : (request : Request) (reads : List Read) (file : FileId) (name : List ℕ) (limit : ℕ) → Course request reads (wants file name limit) → file_limit ≤ octets_of reads + limit
 course_bounded (replay config prefix) reads file name limit wanted =
-    let bounded : IsBounded command_limit (Replays config prefix) = then_bounded command_limit (λ text. length text) (Reads Config config (limit_of command_limit)) (λ text. Then (Answers (IsSetup text)) (λ setup. ReplaysSetup prefix (command_limit - length text) setup)) (reads_bounded Config config command_limit) (reads_counted Config config (limit_of command_limit))
-    (λ text. text_bounded prefix text (command_limit - length text)) in
+    let bounded : IsBounded command_limit (Replays config prefix) = then_bounded command_limit (λ text. length text) (Reads Config config (limit_of command_limit)) (λ text. Then (Answers (IsSetup text)) (λ setup. ReplaysSetup (beside prefix text) setup)) (reads_bounded Config config command_limit) (reads_counted Config config (limit_of command_limit))
+    (λ text. text_bounded text (beside prefix text)) in
     let known = bounded reads file name limit wanted in
     omega arith
 course_bounded (rules config generation) reads file name limit wanted =

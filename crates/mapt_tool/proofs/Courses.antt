@@ -15,8 +15,9 @@ use Rattle.s46_options.proofs.OneReading.{one_container}
 use Rattle.std.proofs.lemmas.Option.{same_Some}
 use Rattle.mapt_tool.specs.declared.status.Status.{Status}
 use Rattle.mapt_tool.specs.declared.status.Status.TheVariants.{SetupRefused}
-use Rattle.mapt_tool.specs.Course.{IsSetup, Configures, rules_said, owner_said, Course}
-use Rattle.mapt_tool.specs.Limits.{command_limit, limit_of, record_limit}
+use Rattle.mapt_tool.specs.Course.{beside, IsSetup, Configures, rules_said, owner_said, Course}
+use Rattle.mapt_tool.specs.Limits.{command_limit, limit_of}
+use Rattle.mapt_setup.specs.Fit.{most_records}
 use Rattle.mapt_tool.specs.Planned.{Planned, says}
 use Rattle.mapt_tool.specs.Printed.{IsHex, IsContainer, IsOptions}
 use Rattle.mapt_tool.specs.Reading.{Answers, Reads, Then}
@@ -27,7 +28,7 @@ use Rattle.setup_tables.specs.declared.edge.EdgeLine.{EdgeLine}
 use Rattle.one_edge.specs.declared.captures.Captures.{Captures}
 use Rattle.one_edge.specs.Edge.{Edge}
 use Rattle.one_edge.proofs.One.{same_edge, same_made, edge_or_none}
-use Rattle.mapt_tool.specs.Replay.{Replayed, only_edge, IsEdgeOf, HasNoEdge, IsReplayed, replay_plan, IsPlanned, IsPlannedBy, ReplaysLan, ReplaysSetup}
+use Rattle.mapt_tool.specs.Replay.{Target, Replayed, only_edge, IsEdgeOf, HasNoEdge, IsReplayed, replay_plan, IsPlanned, IsPlannedBy, ReplaysLan, ReplaysSetup}
 use Rattle.mapt_tool.specs.Request.{Request, replay, rules, owner, options}
 use Rattle.mapt_tool.specs.Status.{status_of}
 use Rattle.mapt_tool.proofs.Single.{IsSingle, then_single, answers_single, determined, reads_single}
@@ -69,11 +70,11 @@ planned_by_one : (prefix : List ℕ) (e : Edge) (read : Result (List Record) Cap
 planned_by_one prefix e (Ok records) x y h g = planned_one prefix e records x y h g
 planned_by_one prefix e (Err fault) x y h g = h ∙ sym g
 
-lan_single : (prefix : List ℕ) (left : ℕ) (e : Edge) (lan : Option (List ℕ)) → IsSingle (ReplaysLan prefix left e lan)
-lan_single prefix left e None = answers_single (IsPlanned prefix e []) (planned_one prefix e [])
-lan_single prefix left e (Some name) =
-    then_single (Reads (InLan 0) name (limit_of left)) (λ octets. Answers (IsPlannedBy prefix e (capture record_limit octets))) (reads_single (InLan 0) name (limit_of left))
-    (λ octets. answers_single (IsPlannedBy prefix e (capture record_limit octets)) (planned_by_one prefix e (capture record_limit octets)))
+lan_single : (to : Target) (e : Edge) (lan : Option (List ℕ)) → IsSingle (ReplaysLan to e lan)
+lan_single to e None = answers_single (IsPlanned to.prefix e []) (planned_one to.prefix e [])
+lan_single to e (Some name) =
+    then_single (Reads (InLan 0) name (limit_of to.left)) (λ octets. Answers (IsPlannedBy to.prefix e (capture most_records octets))) (reads_single (InLan 0) name (limit_of to.left))
+    (λ octets. answers_single (IsPlannedBy to.prefix e (capture most_records octets)) (planned_by_one to.prefix e (capture most_records octets)))
 
 same_replayed : (setup : Setup) (line : Option EdgeLine) (x y : Replayed) → IsEdgeOf setup line x → IsEdgeOf setup line y → x ≡ y
 same_replayed setup None x y h g = absurd h
@@ -94,13 +95,13 @@ replayed_one setup (Ok x) (Err f) h g = absurd (not_both_edges setup (only_edge 
 replayed_one setup (Err e) (Ok y) h g = absurd (not_both_edges setup (only_edge setup) y g h.1)
 replayed_one setup (Err e) (Err f) h g = ap Err (h.0 ∙ sym g.0)
 
-setup_single : (prefix : List ℕ) (left : ℕ) (setup : Setup) → IsSingle (ReplaysSetup prefix left setup)
-setup_single prefix left setup =
-    then_single (Answers (IsReplayed setup)) (λ x. ReplaysLan prefix left x.edge x.lan) (answers_single (IsReplayed setup) (replayed_one setup)) (λ x. lan_single prefix left x.edge x.lan)
+setup_single : (to : Target) (setup : Setup) → IsSingle (ReplaysSetup to setup)
+setup_single to setup =
+    then_single (Answers (IsReplayed setup)) (λ x. ReplaysLan to x.edge x.lan) (answers_single (IsReplayed setup) (replayed_one setup)) (λ x. lan_single to x.edge x.lan)
 
-text_single : (prefix text : List ℕ) → IsSingle (Then (Answers (IsSetup text)) (λ setup. ReplaysSetup prefix (command_limit - length text) setup))
+text_single : (prefix text : List ℕ) → IsSingle (Then (Answers (IsSetup text)) (λ setup. ReplaysSetup (beside prefix text) setup))
 text_single prefix text =
-    then_single (Answers (IsSetup text)) (λ setup. ReplaysSetup prefix (command_limit - length text) setup) (answers_single (IsSetup text) (setup_one text)) (λ setup. setup_single prefix (command_limit - length text) setup)
+    then_single (Answers (IsSetup text)) (λ setup. ReplaysSetup (beside prefix text) setup) (answers_single (IsSetup text) (setup_one text)) (λ setup. setup_single (beside prefix text) setup)
 
 -- ---- options
 
@@ -187,7 +188,7 @@ options_one text (Err e) (Err f) (inr h) (inr g) =
 
 pub course_single : (request : Request) → IsSingle (Course request)
 course_single (replay config prefix) =
-    then_single (Reads Config config (limit_of command_limit)) (λ text. Then (Answers (IsSetup text)) (λ setup. ReplaysSetup prefix (command_limit - length text) setup)) (reads_single Config config (limit_of command_limit)) (text_single prefix)
+    then_single (Reads Config config (limit_of command_limit)) (λ text. Then (Answers (IsSetup text)) (λ setup. ReplaysSetup (beside prefix text) setup)) (reads_single Config config (limit_of command_limit)) (text_single prefix)
 course_single (rules config generation) =
     then_single (Configures config) (λ setup. Answers (λ answer. answer ≡ rules_said setup generation)) (configures_single config) (λ setup. determined (rules_said setup generation))
 course_single (owner config generation addr port) =

@@ -9,7 +9,7 @@ use Rattle.mapt_tool.specs.declared.status.Status.TheVariants.{NotBuilt, NoMemor
 use Rattle.mapt_tool.specs.Ended.{Ended}
 use Rattle.mapt_tool.specs.Planned.{Planned}
 use Rattle.mapt_tool.specs.Reading.{Answers}
-use Rattle.mapt_tool.specs.Replay.{only_one, only_edge, HasNoEdge, IsEdgeOf, IsReplayed, Replayed, ReplaysLan, ReplaysSetup}
+use Rattle.mapt_tool.specs.Replay.{only_one, only_edge, HasNoEdge, IsEdgeOf, IsReplayed, Replayed, Target, ReplaysLan, ReplaysSetup}
 use Rattle.mapt_tool.proofs.Steps.{ends_first, ends_then, ends_here}
 
 pub none_beside : (b : Bool) (lines : List EdgeLine) → b ≡ true → only_one b lines ≡ None
@@ -33,15 +33,15 @@ one_of_one false (first ∷ []) line e one is = ap (λ (l : EdgeLine). Some l) (
 one_of_one false (first ∷ other ∷ lines) line e one is = absurd (omega arith)
 
 -- a setup without an edge that is replayed
-pub ends_without : (prefix : List ℕ) (left : ℕ) (setup : Setup) (folder : FolderSeen) → HasNoEdge setup (only_edge setup) → Ended {A = Planned} (ReplaysSetup prefix left setup) folder folder (Err (NotBuilt Config))
-ends_without prefix left setup folder none =
-    ends_first (Answers (IsReplayed setup)) (λ x. ReplaysLan prefix left x.edge x.lan) folder folder (NotBuilt Config) (ends_here (IsReplayed setup) folder (Err (NotBuilt Config)) (refl, none))
+pub ends_without : (to : Target) (setup : Setup) (folder : FolderSeen) → HasNoEdge setup (only_edge setup) → Ended {A = Planned} (ReplaysSetup to setup) folder folder (Err (NotBuilt Config))
+ends_without to setup folder none =
+    ends_first (Answers (IsReplayed setup)) (λ x. ReplaysLan to x.edge x.lan) folder folder (NotBuilt Config) (ends_here (IsReplayed setup) folder (Err (NotBuilt Config)) (refl, none))
 
-pub ends_with : (prefix : List ℕ) (left : ℕ) (setup : Setup) (old new : FolderSeen) (x : Replayed) (result : Result Planned Status) → IsEdgeOf setup (only_edge setup) x → Ended (ReplaysLan prefix left x.edge x.lan) old new result → Ended (ReplaysSetup prefix left setup) old new result
-ends_with prefix left setup old new x result is then =
-    ends_then (Answers (IsReplayed setup)) (λ x. ReplaysLan prefix left x.edge x.lan) old old new x result (ends_here (IsReplayed setup) old (Ok x) is) then
+pub ends_with : (to : Target) (setup : Setup) (old new : FolderSeen) (x : Replayed) (result : Result Planned Status) → IsEdgeOf setup (only_edge setup) x → Ended (ReplaysLan to x.edge x.lan) old new result → Ended (ReplaysSetup to setup) old new result
+ends_with to setup old new x result is then =
+    ends_then (Answers (IsReplayed setup)) (λ x. ReplaysLan to x.edge x.lan) old old new x result (ends_here (IsReplayed setup) old (Ok x) is) then
 
 -- memory ran out before it was known
-pub ends_lacking_edge : (prefix : List ℕ) (left : ℕ) (setup : Setup) (folder : FolderSeen) → Ended {A = Planned} (ReplaysSetup prefix left setup) folder folder (Err NoMemory)
-ends_lacking_edge prefix left setup folder =
-    ends_first (Answers (IsReplayed setup)) (λ x. ReplaysLan prefix left x.edge x.lan) folder folder NoMemory (ends_here (IsReplayed setup) folder (Err NoMemory) tt)
+pub ends_lacking_edge : (to : Target) (setup : Setup) (folder : FolderSeen) → Ended {A = Planned} (ReplaysSetup to setup) folder folder (Err NoMemory)
+ends_lacking_edge to setup folder =
+    ends_first (Answers (IsReplayed setup)) (λ x. ReplaysLan to x.edge x.lan) folder folder NoMemory (ends_here (IsReplayed setup) folder (Err NoMemory) tt)

@@ -14,7 +14,7 @@ use Rattle.mapt_tool.specs.Limits.{limit_of, command_limit}
 use Rattle.mapt_tool.specs.Planned.{Planned, says}
 use Rattle.mapt_tool.specs.Printed.{IsOptions}
 use Rattle.mapt_tool.specs.Reading.{Read, Next, Answers, Reads, Then}
-use Rattle.mapt_tool.specs.Replay.{ReplaysSetup}
+use Rattle.mapt_tool.specs.Replay.{Target, ReplaysSetup}
 use Rattle.mapt_tool.specs.Request.{Request, replay, rules, owner, options}
 use Rattle.mapt_tool.specs.Status.{status_of}
 
@@ -42,11 +42,15 @@ owner_said setup generation addr port =
     said_of (λ standing. owner_text standing (map (λ e. e.prefix) setup.edges) (map (λ e. e.name) setup.edges) addr port)
     (rules_at setup generation)
 
+-- what a replay is given beside the configuration of this text
+abbrev pub beside : List ℕ → List ℕ → Target
+beside prefix text = record { prefix = prefix; left = command_limit - length text }
+
 -- the configuration of this name is read and set up, and then replayed with what is left of the command's octets
 abbrev pub Replays : List ℕ → List ℕ → List Read → Next Planned Status → Type 0
 Replays config prefix =
     Then (Reads Config config (limit_of command_limit))
-    (λ text. Then (Answers (IsSetup text)) (λ setup. ReplaysSetup prefix (command_limit - length text) setup))
+    (λ text. Then (Answers (IsSetup text)) (λ setup. ReplaysSetup (beside prefix text) setup))
 
 -- what a command comes to
 abbrev pub Course : Request → List Read → Next Planned Status → Type 0

@@ -11,4 +11,5 @@ pub mod Replay
 pub mod Request
 pub mod Serves
 pub mod Status
+pub mod Target
 pub mod Words

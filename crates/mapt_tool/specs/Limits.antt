@@ -1,4 +1,4 @@
--- How much is read of the outside, in octets and in records.
+-- How much is read of the outside, in octets.
 use Rattle.std.specs.Prelude.{ℕ, ◌^◌, min}
 
 -- the longest file that is read, 64 MiB
@@ -12,7 +12,3 @@ command_limit = 2 ^ 27
 -- the most octets that the next file may have, where so many are left of the command's
 abbrev pub limit_of : ℕ → ℕ
 limit_of left = min file_limit left
-
--- the records of all captures of a command
-abbrev pub record_limit : ℕ
-record_limit = 200000

@@ -26,5 +26,6 @@ IsContainer octets (Err status) =
 -- what is said of a text
 abbrev pub IsOptions : List ℕ → Result Planned Status → Type 0
 IsOptions text (Ok plan) =
-    (octets : List ℕ) × (items : List Item) × IsHex text (Ok octets) × IsContainer octets (Ok items) × (plan ≡ says (container_text items))
+    (octets : List ℕ) × (items : List Item) × IsHex text (Ok octets) × IsContainer octets (Ok items)
+    × (plan ≡ says (container_text items))
 IsOptions text (Err status) = IsHex text (Err status) ⊎ ((octets : List ℕ) × IsHex text (Ok octets) × IsContainer octets (Err status))

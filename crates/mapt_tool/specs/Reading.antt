@@ -48,7 +48,8 @@ pub record Goes {A B E : Type 0} (First : List Read → Next A E → Type 0) (Se
   pub second : Second value back next
 
 -- one step after another
-abbrev pub Then : {A B E : Type 0} → (List Read → Next A E → Type 0) → (A → List Read → Next B E → Type 0) → List Read → Next B E → Type 0
+abbrev pub Then : {A B E : Type 0} → (List Read → Next A E → Type 0) → (A → List Read → Next B E → Type 0)
+    → List Read → Next B E → Type 0
 Then First Second reads (gives y) = Goes First Second reads (gives y)
 Then First Second reads (refuses fault) = First reads (refuses fault) ⊎ Goes First Second reads (refuses fault)
 Then First Second reads (wants file name limit) = First reads (wants file name limit) ⊎ Goes First Second reads (wants file name limit)

@@ -12,7 +12,8 @@ use Rattle.setup_tables.specs.declared.edge.EdgeLine.{EdgeLine}
 use Rattle.mapt_setup.specs.declared.setup.Setup.{Setup}
 use Rattle.mapt_tool.specs.declared.status.Status.{Status}
 use Rattle.mapt_tool.specs.declared.status.Status.TheVariants.{CaptureRefused, NotBuilt}
-use Rattle.mapt_tool.specs.Limits.{limit_of, record_limit}
+use Rattle.mapt_tool.specs.Limits.{limit_of}
+use Rattle.mapt_setup.specs.Fit.{most_records}
 use Rattle.mapt_tool.specs.Planned.{Planned}
 use Rattle.mapt_tool.specs.Reading.{Read, Next, Answers, Reads, Then}
 
@@ -20,6 +21,12 @@ use Rattle.mapt_tool.specs.Reading.{Read, Next, Answers, Reads, Then}
 pub record Replayed : Type 0 where
   pub edge : Edge
   pub lan : Option (List ℕ)
+
+-- what a replay is given beside its configuration: with what the names of the files begin that it writes, and how many
+-- octets the command may still read
+pub record Target : Type 0 where
+  pub prefix : List ℕ
+  pub left : ℕ
 
 -- the only edge of a setup that has no capture but that of its LAN, no forward and no change
 abbrev pub only_one : Bool → List EdgeLine → Option EdgeLine
@@ -69,11 +76,11 @@ IsPlannedBy prefix e (Ok records) answer = IsPlanned prefix e records answer
 IsPlannedBy prefix e (Err fault) answer = answer ≡ Err (CaptureRefused (InLan 0) fault)
 
 -- by the LAN's capture, which may have what is left of the command's octets; without one there are no records
-abbrev pub ReplaysLan : List ℕ → ℕ → Edge → Option (List ℕ) → List Read → Next Planned Status → Type 0
-ReplaysLan prefix left e None = Answers (IsPlanned prefix e [])
-ReplaysLan prefix left e (Some name) =
-    Then (Reads (InLan 0) name (limit_of left)) (λ octets. Answers (IsPlannedBy prefix e (capture record_limit octets)))
+abbrev pub ReplaysLan : Target → Edge → Option (List ℕ) → List Read → Next Planned Status → Type 0
+ReplaysLan to e None = Answers (IsPlanned to.prefix e [])
+ReplaysLan to e (Some name) =
+    Then (Reads (InLan 0) name (limit_of to.left)) (λ octets. Answers (IsPlannedBy to.prefix e (capture most_records octets)))
 
 -- by the setup of the configuration
-abbrev pub ReplaysSetup : List ℕ → ℕ → Setup → List Read → Next Planned Status → Type 0
-ReplaysSetup prefix left setup = Then (Answers (IsReplayed setup)) (λ x. ReplaysLan prefix left x.edge x.lan)
+abbrev pub ReplaysSetup : Target → Setup → List Read → Next Planned Status → Type 0
+ReplaysSetup to setup = Then (Answers (IsReplayed setup)) (λ x. ReplaysLan to x.edge x.lan)

@@ -82,12 +82,13 @@ Tells status answer = (status ≡ telling answer) ⊎ (status ≡ NoMemory)
 -- What the top call promises.
 pub record Serves (words : List (List ℕ)) (old new : Outside) (status : Status) : Type 0 where
   -- Words that are no form are answered by Usage, with how many of them begin one. Nothing was read or written.
-  pub no_form : ((request : Request) → Asks words request → ⊥) → (number : ℕ) × IsUsage words number × (status ≡ Usage number) × (new ≡ old)
+  pub no_form : ((request : Request) → Asks words request → ⊥)
+      → (number : ℕ) × IsUsage words number × (status ≡ Usage number) × (new ≡ old)
   -- Words that ask for something are served, and then Usage doesn't come.
   pub form : (request : Request) → Asks words request → Ends request old new status
   -- Where the folder tells its files and nothing failed, the status tells an outcome on them, or memory ran out.
   pub complete : (request : Request) (files : Files) → Asks words request → old.folder.files ≡ Some files → NothingFailed old new
       → (status ≡ NoMemory) ⊎ ((answer : Result Planned Status) × Outcome request files answer × (status ≡ telling answer))
   -- And an outcome is told by its status: a refusal by that refusal and no other, unless memory ran out.
-  pub exact : (request : Request) (files : Files) (answer : Result Planned Status) → Asks words request → old.folder.files ≡ Some files
-      → Outcome request files answer → NothingFailed old new → Tells status answer
+  pub exact : (request : Request) (files : Files) (answer : Result Planned Status)
+      → Asks words request → old.folder.files ≡ Some files → Outcome request files answer → NothingFailed old new → Tells status answer

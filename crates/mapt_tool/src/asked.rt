@@ -1,7 +1,6 @@
 //! The commands that print what a configuration says.
 
 ghost use Rattle.std.specs.Prelude.{◌≡◌, map, IfOk};
-ghost use Rattle.outside.specs.Seen.{folder_seen};
 ghost use Rattle.rule_book.specs.Book.{rules_of};
 ghost use Rattle.rule_book.specs.Text.{owner_text};
 ghost use Rattle.mapt_setup.specs.Valid.{IsValidSetup};
@@ -19,6 +18,13 @@ use outside::{FileId, Folder};
 use rule_book::{Book, owner_line};
 use std::alloc::Global;
 
+/// An IPv4 address and a port of it.
+#[derive(Clone, Copy, Debug)]
+pub struct Endpoint {
+    pub addr: Addr4,
+    pub port: u16,
+}
+
 /// The setup of these octets.
 pub fn setup_in(alloc: Global, text: &[u8]) -> Result<Setup, Status>
     ensures given { Given (IsSetup text.now) result }
@@ -32,7 +38,7 @@ pub fn setup_in(alloc: Global, text: &[u8]) -> Result<Setup, Status>
 
 /// The setup of the configuration in this file.
 fn configured<F: Folder>(alloc: Global, folder: &mut F, config: &str) -> Result<Setup, Status>
-    ensures ended { Ended (Configures config.now) (folder_seen F.files F.handed F.faults F.last folder.old) (folder_seen F.files F.handed F.faults F.last folder.new) result }
+    ensures ended { Ended (Configures config.now) (F.seen folder.old) (F.seen folder.new) result }
     ensures valid { IfOk result IsValidSetup }
 {
     let text = match read_text(alloc, folder, FileId::Config, config, COMMAND_LIMIT) {
@@ -89,36 +95,25 @@ fn names_of(alloc: Global, edges: &[EdgeLine]) -> Result<Vec<Bytes>, NoMemory>
 }
 
 /// The line of the owner of an IPv4 address and port.
-fn line_of(
-    alloc: Global,
-    setup: &Setup,
-    book: &Book,
-    addr: Addr4,
-    port: u16,
-) -> Result<Bytes, NoMemory>
-    ensures { IfOk result (λ line. line ≡ owner_text (rules_of book.now) (map (λ e. e.prefix) setup.now.edges) (map (λ e. e.name) setup.now.edges) addr.0 port) }
+fn line_of(alloc: Global, setup: &Setup, book: &Book, end: Endpoint) -> Result<Bytes, NoMemory>
+    ensures { IfOk result (λ line. line
+        ≡ owner_text (rules_of book.now) (map (λ e. e.prefix) setup.now.edges) (map (λ e. e.name) setup.now.edges) end.addr.0 end.port) }
 {
     let prefixes = prefixes_of(alloc, setup.edges.as_slice())?;
     let names = names_of(alloc, setup.edges.as_slice())?;
-    Ok(owner_line(alloc, book, &prefixes, &names, addr, port)?)
+    Ok(owner_line(alloc, book, &prefixes, &names, end.addr, end.port)?)
 }
 
 /// What is said of the owner of an IPv4 address and port.
-fn owner_said(
-    alloc: Global,
-    setup: &Setup,
-    generation: u32,
-    addr: Addr4,
-    port: u16,
-) -> Result<Plan, Status>
+fn owner_said(alloc: Global, setup: &Setup, generation: u32, end: Endpoint) -> Result<Plan, Status>
     requires { IsValidSetup setup.now }
-    ensures { Given (λ answer. answer ≡ owner_said setup.now generation addr.0 port) result }
+    ensures { Given (λ answer. answer ≡ owner_said setup.now generation end.addr.0 end.port) result }
 {
     let book = match setup.book(alloc, generation) {
         Ok(book) => book,
         Err(fault) => return Err(status_of(fault)),
     };
-    let line = line_of(alloc, setup, &book, addr, port)?;
+    let line = line_of(alloc, setup, &book, end)?;
     Ok(saying(alloc, line.as_slice())?)
 }
 
@@ -129,7 +124,7 @@ pub fn rules<F: Folder>(
     config: &str,
     generation: u32,
 ) -> Result<Plan, Status>
-    ensures { Ended (Course (rules config.now generation)) (folder_seen F.files F.handed F.faults F.last folder.old) (folder_seen F.files F.handed F.faults F.last folder.new) result }
+    ensures { Ended (Course (rules config.now generation)) (F.seen folder.old) (F.seen folder.new) result }
 {
     let setup = match configured(alloc, folder, config) {
         Ok(setup) => setup,
@@ -147,16 +142,15 @@ pub fn owner<F: Folder>(
     folder: &mut F,
     config: &str,
     generation: u32,
-    addr: Addr4,
-    port: u16,
+    end: Endpoint,
 ) -> Result<Plan, Status>
-    ensures { Ended (Course (owner config.now generation addr.0 port)) (folder_seen F.files F.handed F.faults F.last folder.old) (folder_seen F.files F.handed F.faults F.last folder.new) result }
+    ensures { Ended (Course (owner config.now generation end.addr.0 end.port)) (F.seen folder.old) (F.seen folder.new) result }
 {
     let setup = match configured(alloc, folder, config) {
         Ok(setup) => setup,
         Err(status) => return Err(status),
     };
-    match owner_said(alloc, &setup, generation, addr, port) {
+    match owner_said(alloc, &setup, generation, end) {
         Ok(plan) => Ok(plan),
         Err(status) => Err(status),
     }

@@ -1,4 +1,3 @@
-ghost use Rattle.outside.specs.Seen.{folder_seen, sink_seen};
 ghost use Rattle.mapt_tool.specs.Carried.{Carried, Wrote, Said};
 
 use crate::plan::{FileWrite, Plan};
@@ -8,7 +7,7 @@ use std::alloc::Global;
 
 /// Writes the files in their order, up to the first that isn't written.
 fn write_files<F: Folder>(alloc: Global, folder: &mut F, writes: &[FileWrite]) -> Status
-    ensures { Wrote (folder_seen F.files F.handed F.faults F.last folder.old) (folder_seen F.files F.handed F.faults F.last folder.new) writes.now result }
+    ensures { Wrote (F.seen folder.old) (F.seen folder.new) writes.now result }
 {
     for write in writes {
         let name = write.name.as_str();
@@ -23,7 +22,7 @@ fn write_files<F: Folder>(alloc: Global, folder: &mut F, writes: &[FileWrite]) -
 
 /// Puts the text on the sink, where there is any.
 fn put_text<K: Sink>(alloc: Global, out: &mut K, text: &[u8]) -> Status
-    ensures { Said (sink_seen K.written K.faults out.old) (sink_seen K.written K.faults out.new) text.now result }
+    ensures { Said (K.seen out.old) (K.seen out.new) text.now result }
 {
     if text.is_empty() {
         return Status::Done;
@@ -42,7 +41,8 @@ pub fn carry_out<F: Folder, K: Sink>(
     out: &mut K,
     plan: &Plan,
 ) -> Status
-    ensures { Carried (record { folder = folder_seen F.files F.handed F.faults F.last folder.old; sink = sink_seen K.written K.faults out.old }) (record { folder = folder_seen F.files F.handed F.faults F.last folder.new; sink = sink_seen K.written K.faults out.new }) plan.now result }
+    ensures { Carried (record { folder = F.seen folder.old; sink = K.seen out.old })
+        (record { folder = F.seen folder.new; sink = K.seen out.new }) plan.now result }
 {
     match write_files(alloc, folder, plan.writes()) {
         Status::Done => put_text(alloc, out, plan.text()),

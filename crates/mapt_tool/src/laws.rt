@@ -10,5 +10,6 @@ ghost use Rattle.mapt_tool.specs.Request.{Request};
 /// With one worker a command has at most one outcome on given files: what it writes and says, or the status with
 /// which it is refused.
 pub fn commands_have_at_most_one_outcome()
-    ensures { (request : Request) (files : Files) (one other : Result Planned Ending) → Outcome request files one → Outcome request files other → one ≡ other }
+    ensures { (request : Request) (files : Files) (one other : Result Planned Ending)
+        → Outcome request files one → Outcome request files other → one ≡ other }
 {}

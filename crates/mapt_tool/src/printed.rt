@@ -1,7 +1,6 @@
 //! The command `options`: a container of DHCPv6 options in hexadecimal text is printed, and written again.
 
 ghost use Rattle.std.specs.Prelude.{◌≡◌, ◌≤◌, ◌^◌, length, IfOk};
-ghost use Rattle.outside.specs.Seen.{folder_seen};
 ghost use Rattle.mapt_tool.specs.Course.{Course};
 ghost use Rattle.mapt_tool.specs.Ended.{Ended, Given};
 ghost use Rattle.mapt_tool.specs.Printed.{IsHex, IsContainer, IsOptions};
@@ -64,7 +63,7 @@ fn options_said(alloc: Global, text: &[u8]) -> Result<Plan, Status>
 
 /// Prints the container of DHCPv6 options in this file, and writes it again.
 pub fn options<F: Folder>(alloc: Global, folder: &mut F, file: &str) -> Result<Plan, Status>
-    ensures { Ended (Course (options file.now)) (folder_seen F.files F.handed F.faults F.last folder.old) (folder_seen F.files F.handed F.faults F.last folder.new) result }
+    ensures { Ended (Course (options file.now)) (F.seen folder.old) (F.seen folder.new) result }
 {
     let text = match read_text(alloc, folder, FileId::Options, file, COMMAND_LIMIT) {
         Ok(text) => text,

@@ -1,5 +1,4 @@
 ghost use Rattle.std.specs.Prelude.{◌≡◌, ◌≤◌, ◌<◌, ◌+◌, ◌^◌, length, IfOk, IfErr};
-ghost use Rattle.outside.specs.Seen.{folder_seen};
 ghost use Rattle.mapt_tool.specs.Ended.{Ended, handing};
 ghost use Rattle.mapt_tool.specs.Limits.{file_limit, command_limit, limit_of};
 ghost use Rattle.mapt_tool.specs.Pieces.{HoldsFrom, IsContent, PieceFails};
@@ -19,6 +18,13 @@ pub const COMMAND_LIMIT: u64 = 1 << 27;
 /// How many octets are asked for at a time.
 const PIECE: usize = 65_536;
 
+/// A file of the command: which one it is, and its name.
+#[derive(Clone, Copy)]
+struct Named<'a> {
+    file: FileId,
+    name: &'a str,
+}
+
 /// A buffer of this size.
 fn zeros(alloc: Global, size: usize) -> Result<Vec<u8>, NoMemory>
     ensures { IfOk result (λ buffer. length buffer.items ≡ size) }
@@ -31,23 +37,25 @@ fn zeros(alloc: Global, size: usize) -> Result<Vec<u8>, NoMemory>
 fn read_piece<F: Folder>(
     alloc: Global,
     folder: &mut F,
-    file: FileId,
-    name: &str,
+    named: Named<'_>,
     bytes: &mut Bytes,
     piece: &mut [u8],
 ) -> Result<usize, Status>
     requires { length bytes.old < 2 ^ 27 }
     ensures within { IfOk result (λ n. n ≤ length piece.old) }
     ensures longer { IfOk result (λ n. length bytes.new ≡ length bytes.old + n) }
-    ensures holds { IfOk result (λ n. HoldsFrom (F.files folder.old) name.now bytes.old → HoldsFrom (F.files folder.old) name.now bytes.new) }
-    ensures ended { IfOk result (λ n. n ≡ 0 → 0 < length piece.old → HoldsFrom (F.files folder.old) name.now bytes.old → IsContent (F.files folder.old) name.now bytes.new) }
-    ensures seen { IfOk result (λ n. folder_seen F.files F.handed F.faults F.last folder.new ≡ handing (folder_seen F.files F.handed F.faults F.last folder.old) n) }
-    ensures err { IfErr result (PieceFails (folder_seen F.files F.handed F.faults F.last folder.old) (folder_seen F.files F.handed F.faults F.last folder.new) file (length piece.old)) }
+    ensures holds { let files = (F.seen folder.old).files in
+        IfOk result (λ n. HoldsFrom files named.entry.name.now bytes.old → HoldsFrom files named.entry.name.now bytes.new) }
+    ensures ended { let files = (F.seen folder.old).files in
+        IfOk result (λ n. n ≡ 0 → 0 < length piece.old
+        → HoldsFrom files named.entry.name.now bytes.old → IsContent files named.entry.name.now bytes.new) }
+    ensures seen { IfOk result (λ n. F.seen folder.new ≡ handing (F.seen folder.old) n) }
+    ensures err { IfErr result (PieceFails (F.seen folder.old) (F.seen folder.new) named.entry.file (length piece.old)) }
 {
     let offset = bytes.as_slice().len() as u64;
-    let count = match folder.read_at(alloc, file, name, offset, piece) {
+    let count = match folder.read_at(alloc, named.file, named.name, offset, piece) {
         Ok(count) => count,
-        Err(OutFault::Failed) => return Err(Status::ReadFault(file)),
+        Err(OutFault::Failed) => return Err(Status::ReadFault(named.file)),
         Err(OutFault::NoMemory) => return Err(Status::NoMemory),
     };
     bytes.extend(&piece[..count])?;
@@ -63,8 +71,9 @@ fn read_whole<F: Folder>(
     limit: u64,
 ) -> Result<Bytes, Status>
     requires { limit ≤ FILE_LIMIT }
-    ensures { Ended (Reads file name.now limit) (folder_seen F.files F.handed F.faults F.last folder.old) (folder_seen F.files F.handed F.faults F.last folder.new) result }
+    ensures { Ended (Reads file name.now limit) (F.seen folder.old) (F.seen folder.new) result }
 {
+    let named = Named { file, name };
     let mut bytes = Bytes::new(alloc);
     let mut piece = zeros(alloc, PIECE)?;
     'pieces: loop {
@@ -73,7 +82,7 @@ fn read_whole<F: Folder>(
             return Err(Status::TooLong(file));
         }
         let asked = (limit + 1 - len).min(PIECE as u64) as usize;
-        match read_piece(alloc, folder, file, name, &mut bytes, &mut piece[..asked]) {
+        match read_piece(alloc, folder, named, &mut bytes, &mut piece[..asked]) {
             Ok(0) => return Ok(bytes),
             Ok(_) => {}
             Err(status) => return Err(status),
@@ -89,7 +98,7 @@ pub fn read_text<F: Folder>(
     name: &str,
     left: u64,
 ) -> Result<Bytes, Status>
-    ensures ended { Ended (Reads file name.now (limit_of left)) (folder_seen F.files F.handed F.faults F.last folder.old) (folder_seen F.files F.handed F.faults F.last folder.new) result }
+    ensures ended { Ended (Reads file name.now (limit_of left)) (F.seen folder.old) (F.seen folder.new) result }
     ensures short { IfOk result (λ text. length text ≤ limit_of left) }
 {
     match read_whole(alloc, folder, file, name, left.min(FILE_LIMIT)) {

@@ -1,12 +1,11 @@
 ghost use Rattle.std.specs.Prelude.{map};
 ghost use Rattle.std.specs.String.{string_bytes};
-ghost use Rattle.outside.specs.Seen.{folder_seen, sink_seen};
 ghost use Rattle.mapt_tool.specs.Course.{Course};
 ghost use Rattle.mapt_tool.specs.Ended.{Ended};
 ghost use Rattle.mapt_tool.specs.Serves.{Ends, Serves};
 ghost use Rattle.mapt_tool.specs.Words.{seen};
 
-use crate::asked::{owner, rules};
+use crate::asked::{Endpoint, owner, rules};
 use crate::carrying::carry_out;
 use crate::plan::Plan;
 use crate::printed::options;
@@ -20,7 +19,7 @@ use std::thread::Threads;
 
 /// What the command does to the outside.
 fn plan_of<F: Folder>(alloc: Global, folder: &mut F, command: Command<'_>) -> Result<Plan, Status>
-    ensures { Ended (Course (seen command.entry)) (folder_seen F.files F.handed F.faults F.last folder.old) (folder_seen F.files F.handed F.faults F.last folder.new) result }
+    ensures { Ended (Course (seen command.entry)) (F.seen folder.old) (F.seen folder.new) result }
 {
     match command {
         Command::Replay { config, prefix } => replay(alloc, folder, config, prefix),
@@ -30,7 +29,7 @@ fn plan_of<F: Folder>(alloc: Global, folder: &mut F, command: Command<'_>) -> Re
             generation,
             addr,
             port,
-        } => owner(alloc, folder, config, generation, addr, port),
+        } => owner(alloc, folder, config, generation, Endpoint { addr, port }),
         Command::Options { file } => options(alloc, folder, file),
     }
 }
@@ -43,8 +42,8 @@ fn serve<F: Folder, K: Sink>(
     out: &mut K,
 ) -> Status
     ensures { Ends (seen command.entry)
-        (record { folder = folder_seen F.files F.handed F.faults F.last folder.old; sink = sink_seen K.written K.faults out.old })
-        (record { folder = folder_seen F.files F.handed F.faults F.last folder.new; sink = sink_seen K.written K.faults out.new }) result }
+        (record { folder = F.seen folder.old; sink = K.seen out.old })
+        (record { folder = F.seen folder.new; sink = K.seen out.new }) result }
 {
     match plan_of(alloc, folder, command) {
         Ok(plan) => carry_out(alloc, folder, out, &plan),
@@ -62,8 +61,8 @@ pub fn mapt_plain<F: Folder, K: Sink>(
     out: &mut K,
 ) -> Status
     ensures { Serves (map string_bytes words.now)
-        (record { folder = folder_seen F.files F.handed F.faults F.last folder.old; sink = sink_seen K.written K.faults out.old })
-        (record { folder = folder_seen F.files F.handed F.faults F.last folder.new; sink = sink_seen K.written K.faults out.new }) result }
+        (record { folder = F.seen folder.old; sink = K.seen out.old })
+        (record { folder = F.seen folder.new; sink = K.seen out.new }) result }
 {
     match command_of(words) {
         Ok(command) => serve(alloc, command, folder, out),
@@ -82,8 +81,8 @@ pub fn mapt<R: Threads + Wait + Sync, F: Folder, K: Sink, G: Gate + Sync>(
     _gate: &G,
 ) -> Status
     ensures { Serves (map string_bytes words.now)
-        (record { folder = folder_seen F.files F.handed F.faults F.last folder.old; sink = sink_seen K.written K.faults out.old })
-        (record { folder = folder_seen F.files F.handed F.faults F.last folder.new; sink = sink_seen K.written K.faults out.new }) result }
+        (record { folder = F.seen folder.old; sink = K.seen out.old })
+        (record { folder = F.seen folder.new; sink = K.seen out.new }) result }
 {
     mapt_plain(alloc, words, folder, out)
 }

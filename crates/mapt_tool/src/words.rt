@@ -221,7 +221,8 @@ fn is_file_name(word: &str) -> bool
 /// The command `replay` of these words, if they spell it.
 fn replay_of<'a>(verb: &str, config: &'a str, prefix: &'a str) -> Option<Command<'a>>
     ensures found { IfSome result (λ command. Asks (verb.now ∷ config.now ∷ prefix.now ∷ []) (seen command)) }
-    ensures none { IfNone result ((named begin : List ℕ) → Asks (verb.now ∷ config.now ∷ prefix.now ∷ []) (replay named begin) → ⊥) }
+    ensures none { IfNone result ((named begin : List ℕ)
+        → Asks (verb.now ∷ config.now ∷ prefix.now ∷ []) (replay named begin) → ⊥) }
 {
     if is_verb(verb, Verb::Replay) && is_file_name(config) {
         Some(Command::Replay { config, prefix })
@@ -233,7 +234,8 @@ fn replay_of<'a>(verb: &str, config: &'a str, prefix: &'a str) -> Option<Command
 /// The command `rules` of these words, if they spell it.
 fn rules_of<'a>(verb: &str, config: &'a str, generation: &str) -> Option<Command<'a>>
     ensures found { IfSome result (λ command. Asks (verb.now ∷ config.now ∷ generation.now ∷ []) (seen command)) }
-    ensures none { IfNone result ((named : List ℕ) (number : ℕ) → Asks (verb.now ∷ config.now ∷ generation.now ∷ []) (rules named number) → ⊥) }
+    ensures none { IfNone result ((named : List ℕ) (number : ℕ)
+        → Asks (verb.now ∷ config.now ∷ generation.now ∷ []) (rules named number) → ⊥) }
 {
     if !(is_verb(verb, Verb::Rules) && is_file_name(config)) {
         return None;
@@ -252,8 +254,10 @@ fn owner_of<'a>(
     addr: &str,
     port: &str,
 ) -> Option<Command<'a>>
-    ensures found { IfSome result (λ command. Asks (verb.now ∷ config.now ∷ generation.now ∷ addr.now ∷ port.now ∷ []) (seen command)) }
-    ensures none { IfNone result ((request : Request) → Asks (verb.now ∷ config.now ∷ generation.now ∷ addr.now ∷ port.now ∷ []) request → ⊥) }
+    ensures found { IfSome result (λ command.
+        Asks (verb.now ∷ config.now ∷ generation.now ∷ addr.now ∷ port.now ∷ []) (seen command)) }
+    ensures none { IfNone result ((request : Request)
+        → Asks (verb.now ∷ config.now ∷ generation.now ∷ addr.now ∷ port.now ∷ []) request → ⊥) }
 {
     if !(is_verb(verb, Verb::Owner) && is_file_name(config)) {
         return None;

@@ -1,6 +1,8 @@
-ghost use Rattle.std.specs.Prelude.{◌≡◌, List, ℕ, [], ◌∷◌, ◌++◌, IsOk, OnOk, OnErr, IfOk};
+ghost use Rattle.std.specs.Prelude.{◌≡◌, ◌≤◌, ◌+◌, List, ℕ, [], ◌∷◌, ◌++◌, length, IsOk, OnOk, OnErr, IfOk};
+ghost use Rattle.octets.specs.Field.{with_word};
 
 use crate::NoMemory;
+use crate::field::put_word;
 use std::alloc::Global;
 use std::marker::Model;
 
@@ -26,6 +28,24 @@ impl Bytes {
         }
     }
 
+    /// No octets, in memory that has room for so many.
+    pub fn with_room(alloc: Global, room: usize) -> Result<Bytes, NoMemory>
+        ensures { IfOk result (λ made. made ≡ []) }
+    {
+        Ok(Bytes {
+            octets: Vec::with_capacity(alloc, room)?,
+        })
+    }
+
+    /// A copy of these octets, in as much memory as they need.
+    pub fn of(alloc: Global, octets: &[u8]) -> Result<Bytes, NoMemory>
+        ensures { IfOk result (λ made. made ≡ octets.now) }
+    {
+        Ok(Bytes {
+            octets: Vec::from_slice(alloc, octets)?,
+        })
+    }
+
     /// These octets, which take no more memory.
     pub fn from_vec(octets: Vec<u8>) -> Bytes
         ensures { result ≡ octets.items }
@@ -49,6 +69,15 @@ impl Bytes {
     {
         self.octets.extend_from_slice(octets)?;
         Ok(())
+    }
+
+    /// Writes a number of 16 bits over the two octets at this place, the high octet first.
+    pub fn set_word(&mut self, at: usize, number: u16)
+        requires { at + 2 ≤ length self.old }
+        ensures written { self.new ≡ with_word at number self.old }
+        ensures len { length self.new ≡ length self.old }
+    {
+        put_word(&mut self.octets, at, number);
     }
 
     /// The same octets once more. A copy of no octets takes no memory.

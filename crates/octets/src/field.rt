@@ -1,6 +1,6 @@
 //! Numbers of several octets at their place, the highest octet first (RFC 791, appendix B).
 ghost use Rattle.std.specs.Prelude.{◌≡◌, ◌+◌, ◌≤◌, length};
-ghost use Rattle.octets.specs.Field.{word, quad, sixteen};
+ghost use Rattle.octets.specs.Field.{word, quad, sixteen, with_word};
 
 use byteorder::{BigEndian, ByteOrder};
 
@@ -10,6 +10,15 @@ pub fn word_at(octets: &[u8], at: usize) -> u16
     ensures { result ≡ word octets.now at }
 {
     BigEndian::read_u16(&octets[at..])
+}
+
+/// Writes a number of 16 bits over the two octets at this place.
+pub fn put_word(octets: &mut [u8], at: usize, number: u16)
+    requires { at + 2 ≤ length octets.old }
+    ensures written { octets.new ≡ with_word at number octets.old }
+    ensures len { length octets.new ≡ length octets.old }
+{
+    octets[at..at + 2].copy_from_slice(&number.to_be_bytes());
 }
 
 /// The number of 32 bits at this place.

@@ -28,7 +28,7 @@ pub use address::{Addr4, Addr6, bits_of};
 pub use bytes::Bytes;
 pub use cause::{Cause, Fault};
 pub use equal::{addresses_are_in_the_order_of_numbers, equal_values_are_the_same};
-pub use field::{quad_at, sixteen_at, word_at};
+pub use field::{put_word, quad_at, sixteen_at, word_at};
 pub use fragment::is_wrong_fragment;
 pub use laws::{
     a_text_spells_one_value, an_ipv4_text_is_the_written_one,

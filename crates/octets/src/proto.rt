@@ -42,7 +42,11 @@ impl Proto {
         ensures four { proto4 number ≡ Some result }
         ensures six { proto6 number ≡ Some result }
     {
-        if number == TCP { Proto::Tcp } else { Proto::Udp }
+        if number == TCP {
+            Proto::Tcp
+        } else {
+            Proto::Udp
+        }
     }
 
     /// Its number over IPv4.

@@ -25,7 +25,8 @@ const HEADER6: u16 = 40;
 
 /// The ports of a whole packet of TCP or UDP with this payload, and none where it is no such one.
 fn flow_ports(proto: Proto, payload: &[u8]) -> Option<Ports>
-    ensures found { IfSome result (λ ports. (proto ≢ Icmp) × (IsBadTransport proto payload.now true → ⊥) × (ports ≡ (l4_of proto payload.now).ports)) }
+    ensures found { IfSome result (λ ports.
+        (proto ≢ Icmp) × (IsBadTransport proto payload.now true → ⊥) × (ports ≡ (l4_of proto payload.now).ports)) }
     ensures lacking { IfNone result ((proto ≡ Icmp) ⊎ IsBadTransport proto payload.now true) }
 {
     if matches!(proto, Proto::Icmp) {
@@ -80,9 +81,10 @@ impl OneEdge {
         records: &[Record],
     ) -> Result<Option<Vec<Taken>>, NoMemory>
         ensures found { IfOk result (λ found. IfSome found (λ ts. AreServed (edge_in self.now) records.now ts.items)) }
-        ensures lacking { IfOk result (λ found. IfNone found ((ts : List Packet) → AreServed (edge_in self.now) records.now ts → ⊥)) }
+        ensures lacking { IfOk result (λ found.
+            IfNone found ((ts : List Packet) → AreServed (edge_in self.now) records.now ts → ⊥)) }
     {
-        let mut packets = Vec::new(alloc);
+        let mut packets = Vec::with_capacity(alloc, records.len())?;
         for record in records {
             match self.taken(record.bytes.as_slice()) {
                 Some(packet) => packets.push(packet)?,

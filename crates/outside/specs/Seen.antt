@@ -23,33 +23,36 @@ pub record SinkSeen : Type 0 where
   pub written : Option (List ℕ)
   pub faults : ℕ
 
--- a folder by its meanings
-abbrev pub folder_seen : {F : Type 0} → (F → Option Files) → (F → ℕ) → (F → ℕ) → (F → Option Failure) → F → FolderSeen
-folder_seen files handed faults last folder =
-    record { files = files folder; handed = handed folder; faults = faults folder; last = last folder }
-
--- a sink by its meanings
-abbrev pub sink_seen : {K : Type 0} → (K → Option (List ℕ)) → (K → ℕ) → K → SinkSeen
-sink_seen written faults sink = record { written = written sink; faults = faults sink }
-
 -- a call of this file failed, and nothing else is seen of it but what the file holds
 pub record CallFailed (old new : FolderSeen) (file : FileId) (operation : Operation) : Type 0 where
   pub rose : Rose old.faults new.faults
   pub last : new.last ≡ Some (record { file = file; operation = operation })
   pub handed : new.handed ≡ old.handed
 
--- a read of a piece of a file from an offset on, by its answer
-abbrev pub ReadEnds : FolderSeen → FolderSeen → FileId → List ℕ → ℕ → List ℕ → Result ℕ OutFault → Type 0
-ReadEnds old new file name offset buffer (Ok n) =
-    (new ≡ record old { handed = counted old.handed n }) × IsPiece old.files name offset n buffer
-ReadEnds old new file name offset buffer (Err Failed) = CallFailed old new file Read × (new.files ≡ old.files)
-ReadEnds old new file name offset buffer (Err NoMemory) = new ≡ old
+-- a place in a file: which file of the command is meant, its name, and an offset in it
+pub record Place : Type 0 where
+  pub file : FileId
+  pub name : List ℕ
+  pub offset : ℕ
+
+-- a read of a piece of a file from a place on, by its answer
+abbrev pub ReadEnds : FolderSeen → FolderSeen → Place → List ℕ → Result ℕ OutFault → Type 0
+ReadEnds old new place buffer (Ok n) =
+    (new ≡ record old { handed = counted old.handed n }) × IsPiece old.files place.name place.offset n buffer
+ReadEnds old new place buffer (Err Failed) = CallFailed old new place.file Read × (new.files ≡ old.files)
+ReadEnds old new place buffer (Err NoMemory) = new ≡ old
+
+-- a file that is written: which one of the command is meant, its name, and all that it is to hold
+pub record Content : Type 0 where
+  pub file : FileId
+  pub name : List ℕ
+  pub octets : List ℕ
 
 -- a write of a file, by its answer; after a failure the named file may hold anything
-abbrev pub WriteEnds : FolderSeen → FolderSeen → FileId → List ℕ → List ℕ → Result (Unit {0}) OutFault → Type 0
-WriteEnds old new file name octets (Ok _) = new ≡ record old { files = put_if_told old.files name octets }
-WriteEnds old new file name octets (Err Failed) = CallFailed old new file Write × SameBut name old.files new.files
-WriteEnds old new file name octets (Err NoMemory) = new ≡ old
+abbrev pub WriteEnds : FolderSeen → FolderSeen → Content → Result (Unit {0}) OutFault → Type 0
+WriteEnds old new content (Ok _) = new ≡ record old { files = put_if_told old.files content.name content.octets }
+WriteEnds old new content (Err Failed) = CallFailed old new content.file Write × SameBut content.name old.files new.files
+WriteEnds old new content (Err NoMemory) = new ≡ old
 
 -- a text that is put on a sink, by the answer; after a failure a beginning of it may stand there
 abbrev pub PutEnds : SinkSeen → SinkSeen → List ℕ → Result (Unit {0}) OutFault → Type 0

@@ -50,7 +50,10 @@ impl MemFolder {
 
     /// Counts a call that failed.
     fn fail(&mut self, file: FileId, operation: Operation) -> OutFault
-        ensures counted { self.new ≡ record self.old { faults = counted self.old.faults 1; last = Some (record { file = file; operation = operation }) } }
+        ensures counted { self.new ≡ record self.old {
+          faults = counted self.old.faults 1;
+          last = Some (record { file = file; operation = operation });
+        } }
         ensures failed { result ≡ OutFault.Failed }
     {
         self.faults = self.faults.saturating_add(1);
@@ -80,13 +83,7 @@ impl Folder for MemFolder {
     ghost use Rattle.outside.specs.Files.{content_of, FillsOrEnds};
     ghost use Rattle.outside.specs.InMemory.{memory_files, memory_seen, failing_writes, next_write, FailsToRead, CountsRead, CountsWrite};
 
-    ghost files = { λ s. Some s.store };
-
-    ghost handed = { λ s. s.handed };
-
-    ghost faults = { λ s. s.faults };
-
-    ghost last = { λ s. s.last };
+    ghost seen = { memory_seen };
 
     fn read_at(
         &mut self,
@@ -97,7 +94,8 @@ impl Folder for MemFolder {
         buf: &mut [u8],
     ) -> Result<usize, OutFault>
         ensures within { IfOk result (λ n. n ≤ length buf.old) }
-        ensures ends { ReadEnds (memory_seen self.old) (memory_seen self.new) file name.now offset buf.new result }
+        ensures ends { ReadEnds (memory_seen self.old) (memory_seen self.new)
+            (record { file = file; name = name.now; offset = offset }) buf.new result }
         // It fills the buffer or reaches the end of the file, and leaves the octets behind.
         ensures fills { IfOk result (λ n. FillsOrEnds (content_of (memory_files self.old) name.now) offset n (length buf.old)) }
         ensures rest { IfOk result (λ n. drop n buf.new ≡ drop n buf.old) }
@@ -129,7 +127,8 @@ impl Folder for MemFolder {
         name: &str,
         bytes: &[u8],
     ) -> Result<(), OutFault>
-        ensures ends { WriteEnds (memory_seen self.old) (memory_seen self.new) file name.now bytes.now result }
+        ensures ends { WriteEnds (memory_seen self.old) (memory_seen self.new)
+            (record { file = file; name = name.now; octets = bytes.now }) result }
         // It fails exactly where its number is listed, and then leaves all files.
         ensures fails { IsErrOf result OutFault.Failed ↔ Contains (failing_writes self.old) (next_write self.old) }
         ensures unwritten { OnErr result ((memory_seen self.new).files ≡ (memory_seen self.old).files) }

@@ -44,9 +44,7 @@ impl Sink for MemSink {
     ghost use Rattle.outside.specs.Seen.{PutEnds};
     ghost use Rattle.outside.specs.InMemory.{memory_text, memory_sink_seen, failing_puts, next_put, CountsPut};
 
-    ghost written = { λ s. Some s.text };
-
-    ghost faults = { λ s. s.faults };
+    ghost seen = { memory_sink_seen };
 
     fn put(&mut self, _alloc: Global, bytes: &[u8]) -> Result<(), OutFault>
         ensures ends { PutEnds (memory_sink_seen self.old) (memory_sink_seen self.new) bytes.now result }

@@ -45,7 +45,10 @@ impl<R: Files + Drop> RealFolder<R> {
 
     /// Counts a call that failed.
     fn fail(&mut self, file: FileId, operation: Operation) -> OutFault
-        ensures counted { self.new ≡ record self.old { faults = counted self.old.faults 1; last = Some (record { file = file; operation = operation }) } }
+        ensures counted { self.new ≡ record self.old {
+          faults = counted self.old.faults 1;
+          last = Some (record { file = file; operation = operation });
+        } }
         ensures failed { result ≡ OutFault.Failed }
     {
         self.faults = self.faults.saturating_add(1);
@@ -56,7 +59,11 @@ impl<R: Files + Drop> RealFolder<R> {
     /// What is answered where the system refuses before anything changed: want of memory as such, and anything else as
     /// a call that failed.
     fn refuse(&mut self, kind: ErrorKind, file: FileId, operation: Operation) -> OutFault
-        ensures failed { result ≡ OutFault.Failed → self.new ≡ record self.old { faults = counted self.old.faults 1; last = Some (record { file = file; operation = operation }) } }
+        ensures failed { result ≡ OutFault.Failed
+            → self.new ≡ record self.old {
+              faults = counted self.old.faults 1;
+              last = Some (record { file = file; operation = operation });
+            } }
         ensures memory { result ≡ OutFault.NoMemory → self.new ≡ self.old }
     {
         match kind {
@@ -74,7 +81,8 @@ impl<R: Files + Drop> RealFolder<R> {
         buf: &mut [u8],
     ) -> io::Result<usize>
         ensures within { IfOk result (λ n. n ≤ length buf.old) }
-        ensures counts { (self.new.handed ≡ self.old.handed) × (self.new.faults ≡ self.old.faults) × (self.new.last ≡ self.old.last) }
+        ensures counts { (self.new.handed ≡ self.old.handed) × (self.new.faults ≡ self.old.faults)
+            × (self.new.last ≡ self.old.last) }
     {
         let mut open = self.opened(alloc, name, offset)?;
         let count = fill(&mut open.file, buf)?;
@@ -110,13 +118,7 @@ impl<R: Files + Drop> RealFolder<R> {
 impl<R: Files + Drop> Folder for RealFolder<R> {
     ghost use Rattle.std.specs.Prelude.{None};
 
-    ghost files = { λ s. None };
-
-    ghost handed = { λ s. s.handed };
-
-    ghost faults = { λ s. s.faults };
-
-    ghost last = { λ s. s.last };
+    ghost seen = { λ s. record { files = None; handed = s.handed; faults = s.faults; last = s.last } };
 
     fn read_at(
         &mut self,

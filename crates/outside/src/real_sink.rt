@@ -28,9 +28,7 @@ fn write_out<R: Print>(rt: &R, bytes: &[u8]) -> io::Result<()> {
 impl<R: Print + Drop> Sink for RealSink<R> {
     ghost use Rattle.std.specs.Prelude.{None};
 
-    ghost written = { λ s. None };
-
-    ghost faults = { λ s. s.faults };
+    ghost seen = { λ s. record { written = None; faults = s.faults } };
 
     fn put(&mut self, _alloc: Global, bytes: &[u8]) -> Result<(), OutFault> {
         match write_out(&self.rt, bytes) {

@@ -53,13 +53,7 @@ impl Folder for SureFolder {
     ghost use Rattle.outside.specs.Seen.{ReadEnds};
     ghost use Rattle.outside.specs.InMemory.{sure_files, sure_seen};
 
-    ghost files = { λ s. Some s.store };
-
-    ghost handed = { λ s. s.handed };
-
-    ghost faults = { λ s. 0 };
-
-    ghost last = { λ s. None };
+    ghost seen = { sure_seen };
 
     fn read_at(
         &mut self,
@@ -70,7 +64,8 @@ impl Folder for SureFolder {
         buf: &mut [u8],
     ) -> Result<usize, OutFault>
         ensures within { IfOk result (λ n. n ≤ length buf.old) }
-        ensures ends { ReadEnds (sure_seen self.old) (sure_seen self.new) file name.now offset buf.new result }
+        ensures ends { ReadEnds (sure_seen self.old) (sure_seen self.new)
+            (record { file = file; name = name.now; offset = offset }) buf.new result }
         // It fills the buffer or reaches the end of the file, and leaves the octets behind.
         ensures fills { IfOk result (λ n. FillsOrEnds (content_of (sure_files self.old) name.now) offset n (length buf.old)) }
         ensures rest { IfOk result (λ n. drop n buf.new ≡ drop n buf.old) }

@@ -32,11 +32,9 @@ impl SureSink {
 }
 
 impl Sink for SureSink {
-    ghost use Rattle.std.specs.Prelude.{Some};
+    ghost use Rattle.outside.specs.InMemory.{sure_sink_seen};
 
-    ghost written = { λ s. Some s.text };
-
-    ghost faults = { λ s. 0 };
+    ghost seen = { sure_sink_seen };
 
     fn put(&mut self, _alloc: Global, bytes: &[u8]) -> Result<(), OutFault> {
         self.text.extend(bytes)?;

@@ -1,6 +1,6 @@
 -- The captures that are written: classic pcap (draft-ietf-opsawg-pcap, sections 4 and 5) with the
 -- lowest octet of each number first, in microseconds, with raw IP packets.
-use Rattle.std.specs.Prelude.{ℕ, ◌+◌, ◌-◌, ◌*◌, ◌/◌, ◌<◌, ◌≤◌, ◌^◌, min, List, ◌++◌, length}
+use Rattle.std.specs.Prelude.{ℕ, ◌+◌, ◌-◌, ◌*◌, ◌/◌, ◌<◌, ◌≤◌, ◌^◌, ◌&&◌, min, nat_le, nat_lt, Bool, List, ◌++◌, length}
 use Rattle.std.specs.List.{flat_map}
 use Rattle.byteorder.specs.Endian.{little_bytes}
 use Rattle.pcap_files.specs.declared.records.Record.{Record}
@@ -40,3 +40,7 @@ IsWritableTime time = time ≤ 4294967295 * 1000000 + 4294967295
 -- a record that a capture can hold
 abbrev pub IsWritable : Record → Type 0
 IsWritable r = IsWritableTime r.time × (length r.bytes < 2 ^ 32)
+
+-- the test of that
+abbrev pub is_writable : Record → Bool
+is_writable r = nat_le r.time (4294967295 * 1000000 + 4294967295) && nat_lt (length r.bytes) (2 ^ 32)

@@ -37,11 +37,9 @@ fn record_from(alloc: Global, form: Form, octets: &[u8]) -> Result<Record, NoMem
 {
     let seconds = u64::from(form.order.u32_at(octets, SECONDS));
     let micros = form.unit.micros(form.order.u32_at(octets, FRACTION));
-    let mut bytes = Bytes::new(alloc);
-    bytes.extend(packet(form.link, &octets[ENTRY_LEN..]))?;
     Ok(Record {
         time: seconds * 1_000_000 + u64::from(micros),
-        bytes,
+        bytes: Bytes::of(alloc, packet(form.link, &octets[ENTRY_LEN..]))?,
     })
 }
 

@@ -2,8 +2,9 @@ ghost use Rattle.std.specs.Prelude.{◌≡◌, ◌<◌, ◌^◌, ◌++◌, List,
 ghost use Rattle.pcap_files.specs.Written.{empty_capture, entry_header, entry, IsWritableTime};
 
 use crate::entry::{CAPTURED, ENTRY_LEN, FRACTION, ORIGINAL, SECONDS};
+use crate::records::MOST_SECONDS;
 use byteorder::{ByteOrder, LittleEndian};
-use octets::NoMemory;
+use octets::{Bytes, NoMemory};
 use std::alloc::Global;
 use std::marker::Model;
 
@@ -12,9 +13,6 @@ use std::marker::Model;
 const HEADER: [u8; 24] = [
     0xd4, 0xc3, 0xb2, 0xa1, 2, 0, 4, 0, 0, 0, 0, 0, 0, 0, 0, 0, 0, 0, 4, 0, 101, 0, 0, 0,
 ];
-
-/// The greatest number of seconds that a record has room for.
-const MOST_SECONDS: u64 = 4_294_967_295;
 
 /// A capture that is written record by record. A contract sees its octets.
 #[derive(Debug, Drop)]
@@ -65,6 +63,13 @@ impl Writer {
         self.octets.extend_from_slice(&header)?;
         self.octets.extend_from_slice(packet)?;
         Ok(())
+    }
+
+    /// The octets of the capture, which take no more memory.
+    pub fn into_bytes(self) -> Bytes
+        ensures { result ≡ self }
+    {
+        Bytes::from_vec(self.octets)
     }
 
     /// The octets of the capture.

@@ -8,11 +8,11 @@ use Rattle.s46_options.specs.declared.subs.Sub.TheVariants as sub
 use Rattle.s46_options.specs.declared.item.Item.{Item}
 use Rattle.s46_options.specs.declared.item.Item.TheVariants as item
 use Rattle.s46_options.specs.declared.fault.OptionFault.{OptionFault}
-use Rattle.s46_options.specs.declared.fault.OptionFault.TheVariants.{SecondParams, SecondDmr, TooManyRules, BadLength, NoRule, NoDmr}
+use Rattle.s46_options.specs.declared.fault.OptionFault.TheVariants.{SecondParams, SecondDmr, TooManyRules, NoRule, NoDmr}
 use Rattle.s46_options.specs.Options.{DhcpOption, spelled_all, Cut}
 use Rattle.s46_options.specs.Items.{sub_option, item_option, inside_octets}
 use Rattle.s46_options.specs.Accepted.{is_params, is_rule, is_dmr, sub_fits, item_fits, is_accepted}
-use Rattle.s46_options.specs.Faults.{has_code, when, params_faults, sub_faults_beside, rule_faults, dmr_faults, item_faults_beside, item_faults, item_judge, each_faults, all_faults, place_behind, missing, first}
+use Rattle.s46_options.specs.Faults.{has_code, when, params_faults, sub_faults_beside, rule_faults, dmr_faults, item_faults_beside, item_faults, item_judge, each_faults, all_faults, missing, first}
 
 same_count : {A : Type 0} (test : A → Bool) (code : ℕ) (option : A → DhcpOption) (fits : A → Bool) → ((x : A) → fits x ≡ true → test x ≡ has_code code (option x)) → (xs : List A) → list_all fits xs ≡ true → count_by test xs ≡ count_by (has_code code) (map option xs)
 same_count {A} test code option fits one [] h = refl

@@ -10,7 +10,7 @@ use Rattle.s46_options.specs.declared.options.RawOption.{RawOption}
 use Rattle.octets.specs.Field.{word}
 use Rattle.s46_options.specs.declared.fault.OptionFault.{OptionFault}
 use Rattle.s46_options.specs.declared.fault.OptionFault.TheVariants.{BadLength}
-use Rattle.s46_options.specs.Options.{DhcpOption, spelled, spelled_all, Cut}
+use Rattle.s46_options.specs.Options.{DhcpOption, spelled, spelled_all}
 use Rattle.s46_options.specs.Raw.{option_of, options_of}
 use Rattle.s46_options.specs.Faults.{Judge, place_behind, each_faults, all_faults, first}
 

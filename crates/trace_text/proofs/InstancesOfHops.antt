@@ -1,10 +1,9 @@
 -- The premises of the laws of hops, met: hops of both nodes that send on the packets of the instances of crossings, with what they free.
 -- What stands at a place in what a hop sends is read off it.
-use Rattle.std.proofs.Common.{◌≡◌, ℕ, true, false, List, [], ◌∷◌, Option, Some, None, inl, inr, refl, sym, ap, ◌∙◌, subst, arith}
+use Rattle.std.proofs.Common.{◌≡◌, ℕ, true, false, List, [], ◌∷◌, Option, Some, None, inl, refl, sym, ap, ◌∙◌, subst, arith}
 use Rattle.octets.specs.declared.address.Addr4.{Addr4}
 use Rattle.octets.specs.declared.address.Addr6.{Addr6}
 use Rattle.octets.specs.declared.proto.Proto.{Proto}
-use Rattle.octets.specs.declared.proto.Proto.TheVariants.{Udp}
 use Rattle.octets.specs.declared.parcel.Parcel.{Parcel}
 use Rattle.ip6_packet.specs.Grammar.{payload_of6}
 use Rattle.l4_headers.specs.declared.ports.Ports.{Ports}
@@ -19,7 +18,6 @@ use Rattle.packets.specs.declared.asked.Extent.TheVariants.{Later as LastPart}
 use Rattle.packets.specs.declared.packet4.Packet4.{Packet4}
 use Rattle.packets.specs.declared.packet4.Content4.TheVariants.{Later as Later4}
 use Rattle.packets.specs.declared.packet6.Packet6.{Packet6}
-use Rattle.packets.specs.declared.packet6.Content6.TheVariants.{Later as Later6}
 use Rattle.packets.specs.Asked.{flow_of4, flow_of6, extent_of4, extent_of6, key_of4, key_of6}
 use Rattle.packets.specs.Packet4.{IsPacket4}
 use Rattle.packets.specs.Packet6.{IsPacket6}

@@ -1,6 +1,6 @@
 -- What becomes of a packet at an edge, by its machine's answer: it is sent or received as the crossings say, and leaves or is dropped
 -- with an answer.
-use Rattle.std.specs.Prelude.{List}
+use Rattle.std.specs.Prelude.{ℕ, List}
 use Rattle.nat_model.specs.declared.answer.Answer.{Answer}
 use Rattle.hops.specs.declared.hop.Hop.{Hop}
 use Rattle.packets.specs.declared.packet4.Packet4.{Packet4}

@@ -6,7 +6,6 @@ use Rattle.octets.specs.declared.mtus.Mtus.{Mtus}
 use Rattle.octets.specs.declared.parcel.Parcel.{Parcel}
 use Rattle.ip4_packet.specs.declared.head.Head4.{Head4}
 use Rattle.ip6_packet.specs.declared.head.Head6.{Head6}
-use Rattle.icmp_messages.specs.declared.icmp4.Icmp4.{Icmp4}
 use Rattle.icmp_messages.specs.declared.inner4.Inner4.{Inner4}
 use Rattle.ip4_packet.specs.Fragment.{is_fragment}
 use Rattle.xlat46.specs.Whole.{packet46}

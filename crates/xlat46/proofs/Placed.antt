@@ -1,18 +1,12 @@
 -- Translated headers are in front of their payload as they are written.
-use Rattle.std.proofs.Common.{◌≡◌, ℕ, ◌-◌, ◌<◌, ◌≤◌, Bool, true, false, cond, List, [], ◌++◌, Some, None, refl, ap, arith}
+use Rattle.std.proofs.Common.{◌≡◌, ℕ, ◌-◌, ◌<◌, ◌≤◌, Bool, true, false, cond, Some, None, refl, arith}
 use Rattle.std.specs.Prelude.{is_some}
-use Rattle.std.proofs.lemmas.List.{append-nil}
 use Rattle.octets.specs.declared.address.Addr6.{Addr6}
 use Rattle.ip4_packet.specs.declared.head.Head4.{Head4}
-use Rattle.ip6_packet.specs.declared.head.Head6.{Head6}
 use Rattle.ip6_packet.specs.declared.head.Frag6.{Frag6}
-use Rattle.ip6_packet.specs.Written.{fixed_header, fragment_part, written6, IsPlaced}
+use Rattle.ip6_packet.specs.Written.{IsPlaced}
 use Rattle.xlat46.specs.Head.{translated}
 use Rattle.ip4_packet.specs.Fragment.{is_fragment}
-
--- what is written in front of nothing, and then the payload
-pub written-then : (h : Head6) (payload : List ℕ) → written6 h [] ++ payload ≡ written6 h payload
-written-then h payload = ap (λ (front : List ℕ). front ++ payload) (append-nil (fixed_header h ++ fragment_part h.upper h.frag))
 
 placed_by : (fragment : Bool) (frag : Frag6) (len : ℕ) → frag.offset < 8192 → len ≤ 65515
     → let header = cond fragment (Some frag) None in IsPlaced (cond (is_some header) 48 40) len header

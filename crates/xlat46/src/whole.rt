@@ -59,7 +59,7 @@ pub fn packet46(
     ensures { IfOk result (λ octets. octets
         ≡ packet46 (parts_of head.now segment.now) ends.now.src ends.now.dst (new_ports segment.now ends.now.ports)) }
 {
-    let mut front = head46(head, ends.src, ends.dst).write(alloc, &[])?;
+    let mut front = head46(head, ends.src, ends.dst).write_front(alloc, segment.payload.len())?;
     match &segment.header {
         None => {
             front.extend(segment.payload)?;

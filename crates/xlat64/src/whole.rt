@@ -43,7 +43,7 @@ pub fn packet64(
     ensures { IfOk result (λ octets. octets
         ≡ packet64 (parts_of head.now segment.now) ends.now.src ends.now.dst (new_ports segment.now ends.now.ports) id) }
 {
-    let mut front = head64(head, ends.src, ends.dst, id).write(alloc, &[])?;
+    let mut front = head64(head, ends.src, ends.dst, id).write_front(alloc, segment.payload.len())?;
     match &segment.header {
         None => {
             front.extend(segment.payload)?;

@@ -45,14 +45,20 @@ action = \"remove\"
 prefix6 = \"2001:db8::/40\"
 ";
 
+/// How a command is to end, and the text that it is to print.
+#[derive(Clone, Copy)]
+struct Expected<'a> {
+    status: Status,
+    text: &'a str,
+}
+
 /// Whether these words, with this configuration or container, end so and print this text, by both top calls.
 fn prints<R: Threads + Wait + Sync>(
     rt: &R,
     alloc: Global,
     file: &[&str],
     words: &[&str],
-    status: Status,
-    text: &str,
+    expected: &Expected<'_>,
 ) -> Result<bool, Fail> {
     let words = words_of(alloc, words)?;
     let mut folder = folder_of(alloc, file, b"")?;
@@ -61,8 +67,9 @@ fn prints<R: Threads + Wait + Sync>(
     let mut out = SureSink::new(alloc);
     let alone = mapt_plain(alloc, &words, &mut folder, &mut plain);
     let shared = mapt(rt, alloc, &words, &mut folder, &mut out, &FreeGate::new());
-    let is_same = plain.as_slice() == text.as_bytes() && out.as_slice() == text.as_bytes();
-    Ok(alone == status && shared == status && is_same)
+    let text = expected.text.as_bytes();
+    let is_same = plain.as_slice() == text && out.as_slice() == text;
+    Ok(alone == expected.status && shared == expected.status && is_same)
 }
 
 /// A file of these parts, the words, and the text that they print.
@@ -144,11 +151,18 @@ const REFUSED: [(&[&str], &[&str], SetupCause, u32); 6] = [
 fn files_are_printed_or_refused(rt: HostRuntime) -> Result<(), Fail> {
     let alloc = rt.alloc();
     for (file, words, text) in PRINTED {
-        assert!(rt; prints(&rt, alloc, file, words, Status::Done, text)?);
+        let printed = Expected {
+            status: Status::Done,
+            text,
+        };
+        assert!(rt; prints(&rt, alloc, file, words, &printed)?);
     }
     for (file, words, cause, place) in REFUSED {
-        let refused = Status::SetupRefused(cause, place);
-        assert!(rt; prints(&rt, alloc, file, words, refused, "")?);
+        let refused = Expected {
+            status: Status::SetupRefused(cause, place),
+            text: "",
+        };
+        assert!(rt; prints(&rt, alloc, file, words, &refused)?);
     }
     Ok(())
 }

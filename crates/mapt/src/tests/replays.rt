@@ -76,9 +76,18 @@ pub const PADDED: [u8; 104] = [
     0x00, 0x00, 0x00, 0x00, 0x00, 0x00, 0x00, 0x00,
 ];
 
+/// The captures that a replay is to write.
+#[derive(Clone, Copy)]
+struct Expected<'a> {
+    access: &'a [u8],
+    core: &'a [u8],
+}
+
 /// Whether these captures were written.
-fn holds(folder: &SureFolder, access: &[u8], core: &[u8]) -> bool {
-    folder.file("out-access.pcap") == Some(access) && folder.file("out-core.pcap") == Some(core)
+fn holds(folder: &SureFolder, expected: &Expected<'_>) -> bool {
+    let access = folder.file("out-access.pcap");
+    let core = folder.file("out-core.pcap");
+    access == Some(expected.access) && core == Some(expected.core)
 }
 
 /// Whether both top calls replay this configuration and LAN capture, write these captures, and print nothing.
@@ -87,8 +96,7 @@ fn replays<R: Threads + Wait + Sync>(
     alloc: Global,
     config: &[&str],
     lan: &[u8],
-    access: &[u8],
-    core: &[u8],
+    expected: &Expected<'_>,
 ) -> Result<bool, Fail> {
     let words = words_of(alloc, &["replay", "home.toml", "out-"])?;
     let mut plain = folder_of(alloc, config, lan)?;
@@ -98,7 +106,7 @@ fn replays<R: Threads + Wait + Sync>(
     let together = mapt(rt, alloc, &words, &mut shared, &mut out, &FreeGate::new());
     let is_silent = out.as_slice() == b"".as_slice();
     let are_done = alone == Status::Done && together == Status::Done && is_silent;
-    Ok(are_done && holds(&plain, access, core) && holds(&shared, access, core))
+    Ok(are_done && holds(&plain, expected) && holds(&shared, expected))
 }
 
 /// The first packet as the record of number 1, in the core: a record's number is its identification.
@@ -119,7 +127,7 @@ fn packets_are_replayed(rt: HostRuntime) -> Result<(), Fail> {
         let access = capture_of(&rt, alloc, &[outward])?;
         let core = capture_of(&rt, alloc, &[arriving])?;
         let (lan, access, core) = (lan.as_slice(), access.as_slice(), core.as_slice());
-        assert!(rt; replays(&rt, alloc, &HOME, lan, access, core)?);
+        assert!(rt; replays(&rt, alloc, &HOME, lan, &Expected { access, core })?);
     }
     Ok(())
 }
@@ -153,7 +161,7 @@ fn edges_are_replayed(rt: HostRuntime) -> Result<(), Fail> {
         (&without_capture, b"", &EMPTY, &EMPTY),
     ];
     for (config, lan, access, core) in rows {
-        assert!(rt; replays(&rt, alloc, config, lan, access, core)?);
+        assert!(rt; replays(&rt, alloc, config, lan, &Expected { access, core })?);
     }
     Ok(())
 }
@@ -166,15 +174,10 @@ fn padding_belongs_to_no_packet(rt: HostRuntime) -> Result<(), Fail> {
     access.add(7_000_001, udp.1)?;
     let mut core = Writer::new(alloc)?;
     core.add(7_000_001, udp.2)?;
-    assert!(rt;
-        replays(
-            &rt,
-            alloc,
-            &HOME,
-            &PADDED,
-            access.as_slice(),
-            core.as_slice()
-        )?
-    );
+    let expected = Expected {
+        access: access.as_slice(),
+        core: core.as_slice(),
+    };
+    assert!(rt; replays(&rt, alloc, &HOME, &PADDED, &expected)?);
     Ok(())
 }

@@ -1,10 +1,8 @@
 use Rattle.std.proofs.Common.{◌≡◌, take}
-use Rattle.outside.specs.Seen.{folder_seen}
 use Rattle.mapt_tool.specs.Carried.{writing}
 use Rattle.mapt_tool.proofs.carrying.write_files.Given as goal
 
 abbrev pub invariant-loop-write : goal.invariant-loop-write
 invariant-loop-write g l =
-    let folder = g.F.Folder in
-    let seen = folder_seen folder.files folder.handed folder.faults folder.last in
+    let seen = g.F.Folder.seen in
     seen l.folder ≡ writing (seen l.fn.folder) (take l.write-index l.writes)

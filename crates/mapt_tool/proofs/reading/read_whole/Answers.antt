@@ -1,6 +1,5 @@
 use Rattle.std.proofs.Common.{◌≡◌, ℕ, ◌+◌, ◌-◌, ◌≤◌, length, min, take, List, ap, arith}
 use Rattle.std.proofs.lemmas.List.{length-take}
-use Rattle.outside.specs.Seen.{folder_seen}
 use Rattle.mapt_tool.proofs.Steps.{ends_unread}
 use Rattle.mapt_tool.proofs.reading.read_whole.Goals as goal
 
@@ -13,8 +12,7 @@ bytes_within bytes now limit same le = omega (arith, ap length same)
 
 pub returns-in-Err : goal.returns-in-Err
 returns-in-Err g c =
-    let folder = g.F.Folder in
-    let seen = folder_seen folder.files folder.handed folder.faults folder.last in
+    let seen = g.F.Folder.seen in
     ends_unread (seen c.args.folder.now) (seen c.pieces.folder) (seen c.read_piece.new.folder) c.args.file c.args.name.now c.pieces.bytes c.args.limit (length (take c.min-asked.result c.deref_mut.result.now)) c.in-Err.status c.pieces.invariant.seen
     (bytes_within c.pieces.bytes c.as_slice.result.now c.args.limit c.as_slice.ensures c.if-len-limit.false)
     (within_limit c.pieces.bytes c.as_slice.result.now c.deref_mut.result.now c.min-asked.result c.args.limit c.as_slice.ensures c.min-asked.ensures c.if-len-limit.false)

@@ -1,8 +1,7 @@
-use Rattle.std.proofs.Common.{arith, ap, sym, ◌∙◌, ◌≡◌, ◌<◌, ◌≤◌, ◌+◌, ◌++◌, ◌∷◌, Bool, ℕ, List, [], length, get_or, take, Some, inl, subst}
+use Rattle.std.proofs.Common.{arith, ap, sym, ◌∙◌, ◌≡◌, ◌<◌, ◌≤◌, ◌+◌, ◌++◌, ◌∷◌, Bool, [], length, get_or, take, Some, inl}
 use Rattle.std.specs.List.{count_by, list_any}
 use Rattle.octets.specs.Field.{word}
 use Rattle.s46_options.specs.declared.fault.OptionFault.TheVariants.{BadLength}
-use Rattle.s46_options.specs.Options.{DhcpOption, spelled_all}
 use Rattle.s46_options.specs.Raw.{option_of, options_of}
 use Rattle.s46_options.specs.Faults.{sub_faults, sub_faults_beside, sub_judge, begun_sub_faults, first, place_behind, has_code}
 use Rattle.s46_options.specs.Reading.{ReadsSub}

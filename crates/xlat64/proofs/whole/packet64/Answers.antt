@@ -8,7 +8,6 @@ use Rattle.ip4_packet.specs.Written.{written4}
 use Rattle.xlat64.specs.Head.{translated}
 use Rattle.xlat64.specs.Read.{parts_of}
 use Rattle.xlat64.specs.Whole.{packet64}
-use Rattle.xlat64.proofs.Joined.{written-then}
 use Rattle.xlat64.proofs.whole.packet64.Goals as goal
 
 pub returns-in-Some : goal.returns-in-Some
@@ -18,7 +17,6 @@ returns-in-Some c =
     let payload = λ (sum : ℕ). with_l4 s.proto s.payload.now ends.ports sum in
     subst (λ (all : List ℕ). IfOk c.followed_by.result (λ octets. octets ≡ all))
     (ap (λ (front : List ℕ). front ++ payload c.sum64-sum.result) c.in_ok-front.ensures.written
-    ∙ written-then c.head64.result (payload c.sum64-sum.result)
     ∙ ap (λ (h : Head4). written4 h (payload c.sum64-sum.result)) c.head64.ensures
     ∙ ap (λ (sum : ℕ). written4 (translated c.args.head.now ends.src ends.dst c.args.id) (payload sum)) c.sum64-sum.ensures
     ∙ ap (λ (l4 : Option L4). packet64 (parts_of c.args.head.now s) ends.src ends.dst (option_map (λ (h : L4). ends.ports) l4) c.args.id) (sym c.in-Some.is))

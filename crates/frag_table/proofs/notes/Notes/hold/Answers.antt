@@ -1,4 +1,4 @@
-use Rattle.std.proofs.Common.{◌≡◌, [], ◌∷◌, ◌++◌, set, sym, ◌∙◌, ap, arith}
+use Rattle.std.proofs.Common.{◌≡◌, [], ◌∷◌, ◌++◌, set, ◌∙◌, arith}
 use Rattle.std.specs.List.{slice_get}
 use Rattle.frag_table.specs.Listed.{listed}
 use Rattle.std.specs.Option.{IfSome}

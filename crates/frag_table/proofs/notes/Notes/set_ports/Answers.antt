@@ -1,4 +1,4 @@
-use Rattle.std.proofs.Common.{Some, sym, ◌∙◌, ap, arith}
+use Rattle.std.proofs.Common.{Some, ◌∙◌, arith}
 use Rattle.slab.specs.Slab.{with_value}
 use Rattle.slab.proofs.SlabLemmas.{Updates-with_value}
 use Rattle.frag_table.proofs.Keys.{within_keys, value_at, key_present, AreKeys-set, set_at}

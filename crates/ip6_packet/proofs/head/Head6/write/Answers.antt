@@ -9,8 +9,8 @@ returns-clause-form c = λ exact. record {
   unrouted = c.requires.unrouted;
   upper = c.requires.upper;
   placed = c.requires.placed;
-  in_range = c.header.ensures.in_range;
-  frag_in_range = c.in_ok-put_fragment.ensures.in_range;
+  in_range = c.in_ok-octets.ensures.in_range;
+  frag_in_range = c.in_ok-octets.ensures.frag_in_range;
   written = search rules;
 }
 
@@ -18,13 +18,13 @@ pub returns-clause-again : goal.returns-clause-again
 returns-clause-again c = λ is_sound.
     let h = c.args.self.now in
     let payload = c.args.payload.now in
-    let form : IsPacket6 h payload c.extend-2.new.self = record {
+    let form : IsPacket6 h payload c.extend.new.self = record {
       exact = is_sound.0;
       unrouted = c.requires.unrouted;
       upper = c.requires.upper;
       placed = c.requires.placed;
-      in_range = c.header.ensures.in_range;
-      frag_in_range = c.in_ok-put_fragment.ensures.in_range;
+      in_range = c.in_ok-octets.ensures.in_range;
+      frag_in_range = c.in_ok-octets.ensures.frag_in_range;
       written = search rules;
     } in
-    written_again h payload c.extend-2.new.self form is_sound
+    written_again h payload c.extend.new.self form is_sound
