@@ -1,10 +1,12 @@
 //! The domain as plain values: what one hop, one record, one edge, one stripe and a whole replay leave in a trace.
 #![tactic(auto)]
 
+mod equal;
 mod history;
 mod journey;
 mod trace;
 
+pub use equal::equal_values_are_the_same;
 pub use history::{
     EdgeHistories, EdgeHistory, EdgeNote, EdgeNotes, StripeHistories, StripeHistory, StripeNote,
     StripeNotes,

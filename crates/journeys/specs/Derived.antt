@@ -44,7 +44,9 @@ use Rattle.domain_core.specs.declared.journey.HopNote.{HopNote}
 use Rattle.domain_core.specs.declared.history.EdgeNote.{EdgeNote}
 use Rattle.domain_core.specs.declared.history.StripeNote.{StripeNote}
 use Rattle.domain_core.specs.declared.trace.Trace.{Trace}
-use Rattle.journeys.specs.Waiting.{Stand, at_edge, at_relay, Waiting, Domain, domain_of, onward, start_of}
+use Rattle.journeys.specs.declared.stand.Stand.{Stand}
+use Rattle.journeys.specs.declared.stand.Stand.TheVariants.{Edge, Relay as AtRelay}
+use Rattle.journeys.specs.Waiting.{Waiting, onward, start_of}
 use Rattle.journeys.specs.Answers.{and_then, note_of, edge_entry, stripe_entry, named_at_edge, named_at_relay}
 
 -- what packets are derived from: a trace, with the setup and the script that it is of
@@ -66,12 +68,12 @@ packets_of rec known = map (λ (p : Packet). p.taken) (filter (λ (p : Packet). 
 abbrev pub record_in : List ScriptItem → ℕ → Option ScriptItem
 record_in script rec = slice_get (filter is_record script) rec
 
-abbrev pub start_in : Domain → ScriptItem → Option Waiting
-start_in domain (Rec side time bytes) = start_of domain side bytes
-start_in domain (Move number live) = None
+abbrev pub start_in : Setup → ScriptItem → Option Waiting
+start_in setup (Rec side time bytes) = start_of setup side bytes
+start_in setup (Move number live) = None
 
 abbrev pub first_of : Told → ℕ → Option Waiting
-first_of told rec = and_then (record_in told.script rec) (start_in (domain_of told.setup))
+first_of told rec = and_then (record_in told.script rec) (start_in told.setup)
 
 -- the identification of packets of this record that have none of their own
 abbrev pub id_of : ℕ → ℕ
@@ -139,7 +141,7 @@ pub record EdgeAt : Type 0 where
 -- what waited there came the same way; octets that are no later fragment are passed over
 abbrev pub freeing_edge : EdgeAt → Answer → Freeing
 freeing_edge at answer = record {
-  Waited = λ who w. w.stand ≡ at_edge at.number at.way;
+  Waited = λ who w. w.stand ≡ Edge at.number at.way;
   Becomes = λ octets hop. AreFreed (IsLaterAt at.way) (Becomes at.node at.way answer) (alone octets) hop;
 }
 
@@ -187,7 +189,7 @@ FreesFrom relay false ports parcels hop = AreFreed4 relay ports parcels hop
 -- what waited there was of the same version, and its hop's line names the same stripe
 abbrev pub freeing_relay : Trace → RelayAt → Ports → Freeing
 freeing_relay trace at ports = record {
-  Waited = λ who w. (w.stand ≡ at_relay at.six)
+  Waited = λ who w. (w.stand ≡ AtRelay at.six)
       × ((note : HopNote) × (note_of trace who.rec who.hop ≡ Some note) × (note.stripe ≡ at.stripe));
   Becomes = λ octets hop. FreesFrom at.relay at.six ports (alone octets) hop;
 }
@@ -240,8 +242,8 @@ abbrev pub AreAtStand : Told → List Packet → ℕ → Waiting → HopNote →
 AreAtStand told known rec w note parts = by w.stand
   where
     by : Stand → Type 0
-    by (at_edge number way) = AreAtLine told known rec (number, way) (slice_get told.setup.edges number) w.octets note parts
-    by (at_relay six) =
+    by (Edge number way) = AreAtLine told known rec (number, way) (slice_get told.setup.edges number) w.octets note parts
+    by (AtRelay six) =
         AreAtRelay told known (record { relay = relay_node told.setup rec note.seen; six = six; stripe = note.stripe }) w.octets note parts
 
 -- a hop that its record lacks in the trace gives nothing
@@ -252,15 +254,15 @@ AreOfHop told known rec w (Some note) parts = AreAtStand told known rec w note p
 -- ---- the packets of a record: its own, and then what its hops send on, first in first out
 
 -- what a part sends on from where its packet stood; nothing is known of what an untold one sends
-abbrev pub sent_on : Domain → Stand → List Out → List (Option Waiting)
-sent_on domain here outs = map Some (filter_map (onward domain here) outs)
+abbrev pub sent_on : Setup → Stand → List Out → List (Option Waiting)
+sent_on setup here outs = map Some (filter_map (onward setup here) outs)
 
-abbrev pub sent_by : Domain → Stand → Part → List (Option Waiting)
-sent_by domain here (made hop) = sent_on domain here hop.outs
-sent_by domain here untold = None ∷ []
+abbrev pub sent_by : Setup → Stand → Part → List (Option Waiting)
+sent_by setup here (made hop) = sent_on setup here hop.outs
+sent_by setup here untold = None ∷ []
 
-abbrev pub sent_by_all : Domain → Stand → List Part → List (Option Waiting)
-sent_by_all domain here parts = flat_map (sent_by domain here) parts
+abbrev pub sent_by_all : Setup → Stand → List Part → List (Option Waiting)
+sent_by_all setup here parts = flat_map (sent_by setup here) parts
 
 -- what these hops of a record send on, where the first of them has this number
 abbrev pub AreSentFrom : Told → List Packet → ℕ → ℕ → List Waiting → List (Option Waiting) → Type 0
@@ -269,7 +271,7 @@ AreSentFrom told known rec hop (w ∷ ws) sent =
     (parts : List Part) × (others : List (Option Waiting))
     × AreOfHop told known rec w (note_of told.trace rec hop) parts
     × AreSentFrom told known rec (suc hop) ws others
-    × (sent ≡ sent_by_all (domain_of told.setup) w.stand parts ++ others)
+    × (sent ≡ sent_by_all told.setup w.stand parts ++ others)
 
 -- as far as it is known
 abbrev pub known_until : {A : Type 0} → List (Option A) → List A

@@ -35,7 +35,9 @@ use Rattle.domain_core.specs.declared.history.StripeNote.{StripeNote}
 use Rattle.domain_core.specs.declared.trace.TraceItem.{TraceItem}
 use Rattle.domain_core.specs.declared.trace.TraceItem.TheVariants.{Record, Live, Still}
 use Rattle.domain_core.specs.Form.{relay as relay_number}
-use Rattle.journeys.specs.Waiting.{Stand, at_edge, at_relay, Waiting}
+use Rattle.journeys.specs.declared.stand.Stand.{Stand}
+use Rattle.journeys.specs.declared.stand.Stand.TheVariants.{Edge, Relay}
+use Rattle.journeys.specs.Waiting.{Waiting}
 use Rattle.journeys.specs.Derived.{Told, Packet, packets_of, IsDerivation, HasAll}
 
 -- the rules of a generation as the machine sees them, and those of all generations
@@ -60,8 +62,8 @@ edge_start setup number line = record {
 -- ---- items: worker 0 takes each, and each hop sees the changes before its record
 
 abbrev pub node_number : Stand → ℕ
-node_number (at_edge number way) = number
-node_number (at_relay six) = relay_number
+node_number (Edge number way) = number
+node_number (Relay six) = relay_number
 
 -- a record's hops take these packets, in this generation
 abbrev pub AreNotes : ℕ → List Waiting → List HopNote → Type 0
@@ -145,8 +147,8 @@ IsAsked made way place others entries =
 -- What a hop adds to the entries of an edge, where the first says what stands from this place on without an entry of it, and the
 -- second what stands behind one.
 abbrev pub AddsAtEdge : ℕ → ℕ → HopMade → (List Entry → Type 0) → (List Entry → Type 0) → Stand → List Entry → Type 0
-AddsAtEdge number place made From Behind (at_relay six) entries = From entries
-AddsAtEdge number place made From Behind (at_edge other way) entries =
+AddsAtEdge number place made From Behind (Relay six) entries = From entries
+AddsAtEdge number place made From Behind (Edge other way) entries =
     ((other ≢ number) × From entries)
     ⊎ (((other ≡ number) × IsUnasked made way × From entries)
     ⊎ ((other ≡ number) × ((others : List Entry) × Behind others × IsAsked made way place others entries)))
@@ -201,8 +203,8 @@ IsAskedAt made ask place others entries =
 
 -- what a hop adds to the entries of a stripe, as at an edge
 abbrev pub AddsAtStripe : ℕ → ℕ → HopMade → (List StripeEntry → Type 0) → (List StripeEntry → Type 0) → Stand → List StripeEntry → Type 0
-AddsAtStripe number place made From Behind (at_edge other way) entries = From entries
-AddsAtStripe number place made From Behind (at_relay six) entries =
+AddsAtStripe number place made From Behind (Edge other way) entries = From entries
+AddsAtStripe number place made From Behind (Relay six) entries =
     (AsksNothing six made.taken.octets × (made.note.stripe ≡ None) × (made.note.place ≡ None) × From entries)
     ⊎ ((ask : FragAsk) × AsksFrom six made.taken.octets (Some ask) × (made.note.stripe ≡ Some (stripe (key_of ask)))
         × (((stripe (key_of ask) ≢ number) × From entries)
