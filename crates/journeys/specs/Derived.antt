@@ -153,7 +153,7 @@ abbrev pub AreEdgeParts : Told → List Packet → EdgeAt → List ℕ → Answe
 AreEdgeParts told known at octets answer parts =
     AreParts (Own at.node at.way answer octets)
     (AreFreedParts (λ place part. IsFreedPart told known (freeing_edge at answer) (who_at_edge told.trace at.number place) part)
-        (freed_of answer))
+    (freed_of answer))
     parts
 
 -- The parts by the entry that the hop's note names: none where it names no entry, or one whose answer is of a kind that the
@@ -169,7 +169,7 @@ abbrev pub AreAtEdge : Told → List Packet → EdgeAt → List ℕ → HopNote 
 AreAtEdge told known at octets note parts =
     ((cause : Cause) × IsDroppedAt at.way cause octets × AreEdgeParts told known at octets (Refused cause []) parts)
     ⊎ (IsTaken at.way octets
-        × AreEntryParts told known at octets (named_at_edge told.trace at.number note.stripe note.place) parts)
+    × AreEntryParts told known at octets (named_at_edge told.trace at.number note.stripe note.place) parts)
 
 -- ---- at the relay: under the rules of a generation, by the version of the packet, at the stripe of the hop's note
 pub record RelayAt : Type 0 where
@@ -211,7 +211,7 @@ AreStripeParts told known at octets answer parts =
     (ports : Ports) × HasPorts at.six octets ports
     × AreParts (IsRelayHop at.relay at.six octets (Some (own_answer answer)))
     (AreFreedParts (λ place part. IsFreedPart told known (freeing_relay told.trace at ports) (who_at_relay told.trace at.stripe place) part)
-        (freed_by answer))
+    (freed_by answer))
     parts
 
 abbrev pub AreUnasked : RelayAt → List ℕ → List Part → Type 0
@@ -230,7 +230,7 @@ AreAtRelay told known at octets note parts =
     ((cause : Cause) × IsDroppedFrom at.six cause octets × AreUnasked at octets parts)
     ⊎ ((AsksFrom at.six octets None × AreUnasked at octets parts)
     ⊎ ((ask : FragAsk) × AsksFrom at.six octets (Some ask)
-        × AreToldParts told known at octets ask (named_at_relay told.trace note.stripe note.place) parts))
+    × AreToldParts told known at octets ask (named_at_relay told.trace note.stripe note.place) parts))
 
 -- ---- what a hop makes of a packet where it stands. One that stands at no edge of the setup comes to nothing.
 abbrev pub AreAtLine : Told → List Packet → ℕ → (ℕ × Way) → Option EdgeLine → List ℕ → HopNote → List Part → Type 0

@@ -207,9 +207,9 @@ AddsAtStripe number place made From Behind (Edge other way) entries = From entri
 AddsAtStripe number place made From Behind (Relay six) entries =
     (AsksNothing six made.taken.octets × (made.note.stripe ≡ None) × (made.note.place ≡ None) × From entries)
     ⊎ ((ask : FragAsk) × AsksFrom six made.taken.octets (Some ask) × (made.note.stripe ≡ Some (stripe (key_of ask)))
-        × (((stripe (key_of ask) ≢ number) × From entries)
-        ⊎ ((stripe (key_of ask) ≡ number)
-            × ((others : List StripeEntry) × Behind others × IsAskedAt made ask place others entries))))
+    × (((stripe (key_of ask) ≢ number) × From entries)
+    ⊎ ((stripe (key_of ask) ≡ number)
+    × ((others : List StripeEntry) × Behind others × IsAskedAt made ask place others entries))))
 
 -- the entries of the hops at the relay that ask at this stripe, from this place on
 abbrev pub AreStripeEntries : ℕ → ℕ → List HopMade → List StripeEntry → Type 0
