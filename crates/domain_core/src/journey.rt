@@ -1,7 +1,15 @@
+ghost use Rattle.std.specs.Prelude.{◌≡◌};
+ghost use Rattle.domain_core.specs.Form.{relay};
+
 use octets::List;
 
 /// The number of the relay among nodes. Those of edges are less.
 pub const RELAY: u32 = 256;
+
+/// Law: the relay has the number that the text of a trace may name last.
+pub fn the_relay_is_numbered_behind_all_edges()
+    ensures { RELAY ≡ relay }
+{}
 
 /// What a trace tells of one hop.
 #[derive(Clone, Copy, Debug, PartialEq, Eq, Hash)]

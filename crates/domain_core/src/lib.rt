@@ -11,5 +11,5 @@ pub use history::{
     EdgeHistories, EdgeHistory, EdgeNote, EdgeNotes, StripeHistories, StripeHistory, StripeNote,
     StripeNotes,
 };
-pub use journey::{HopNote, HopNotes, Journey, RELAY};
+pub use journey::{HopNote, HopNotes, Journey, RELAY, the_relay_is_numbered_behind_all_edges};
 pub use trace::{Trace, TraceItem, TraceItems};
