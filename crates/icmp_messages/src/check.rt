@@ -10,7 +10,7 @@ const PIECE: usize = 1 << 32;
 
 /// The fold of words with the sum `before` and of the words of these octets behind them (RFC 1071,
 /// section 1).
-pub fn folded_behind(before: u64, octets: &[u8]) -> u16
+pub(crate) fn folded_behind(before: u64, octets: &[u8]) -> u16
     requires { before ≤ 2 ^ 32 }
     ensures { result ≡ folded (before + words octets.now) }
 {

@@ -6,18 +6,18 @@ ghost use Rattle.icmp_messages.specs.Message.{front};
 use byteorder::{BigEndian, ByteOrder};
 
 /// The type.
-pub const KIND_AT: usize = 0;
+pub(crate) const KIND_AT: usize = 0;
 /// The code.
-pub const CODE_AT: usize = 1;
+pub(crate) const CODE_AT: usize = 1;
 /// The sum.
-pub const SUM_AT: usize = 2;
+pub(crate) const SUM_AT: usize = 2;
 /// Four octets whose use goes by the type.
-pub const REST_AT: usize = 4;
+pub(crate) const REST_AT: usize = 4;
 /// Octets in front of the body.
-pub const FRONT_LEN: usize = 8;
+pub(crate) const FRONT_LEN: usize = 8;
 
 /// The octets in front of the body.
-pub fn front(kind: u8, code: u8, rest: u32, sum: u16) -> [u8; FRONT_LEN]
+pub(crate) fn front(kind: u8, code: u8, rest: u32, sum: u16) -> [u8; FRONT_LEN]
     ensures { result ≡ front kind code rest sum }
 {
     let mut front = [0; FRONT_LEN];

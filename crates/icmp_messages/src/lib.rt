@@ -18,4 +18,4 @@ pub use icmp4::Icmp4;
 pub use icmp6::Icmp6;
 pub use inner4::{Inner4, read_inner4};
 pub use inner6::{Inner6, read_inner6};
-pub use table::{Rest, Row, pointer46, pointer64, row46, row64};
+pub use table::{PointerRow, Rest, Row, pointer46, pointer64, row46, row64};

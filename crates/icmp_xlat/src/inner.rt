@@ -25,7 +25,7 @@ use xlat64::head64;
 /// What changes in an embedded packet: the words outside its payload that its sum covers, their sum before and
 /// after; its ports; and the type of an echo.
 #[derive(Clone, Copy)]
-pub struct Change {
+pub(crate) struct Change {
     pub before: u64,
     pub after: u64,
     pub ports: Ports,
@@ -250,21 +250,21 @@ fn inner_head64(inner: &Inner6, ends: &Ends<Addr4>) -> Head4
 }
 
 /// The packet that an ICMPv4 error embeds, translated (RFC 7915, section 4.3).
-pub fn inner46(alloc: Global, inner: &Inner4, ends: &Ends<Addr6>) -> Result<Bytes, NoMemory>
+pub(crate) fn inner46(alloc: Global, inner: &Inner4, ends: &Ends<Addr6>) -> Result<Bytes, NoMemory>
     requires { Stands4 inner.now }
     ensures { IfOk result (λ octets. octets ≡ inner46 inner.now ends.now) }
 {
-    let front = inner_head46(inner, ends).write(alloc, &[])?;
+    let front = inner_head46(inner, ends).write_front(alloc, inner.payload.as_slice().len())?;
     let change = change46(inner, ends);
     inner_payload(front, inner.proto, inner.payload.as_slice(), &change)
 }
 
 /// The packet that an ICMPv6 error embeds, translated (RFC 7915, section 5.3).
-pub fn inner64(alloc: Global, inner: &Inner6, ends: &Ends<Addr4>) -> Result<Bytes, NoMemory>
+pub(crate) fn inner64(alloc: Global, inner: &Inner6, ends: &Ends<Addr4>) -> Result<Bytes, NoMemory>
     requires { Stands6 inner.now }
     ensures { IfOk result (λ octets. octets ≡ inner64 inner.now ends.now) }
 {
-    let front = inner_head64(inner, ends).write(alloc, &[])?;
+    let front = inner_head64(inner, ends).write_front(alloc, inner.payload.as_slice().len())?;
     let change = change64(inner, ends);
     inner_payload(front, inner.proto, inner.payload.as_slice(), &change)
 }

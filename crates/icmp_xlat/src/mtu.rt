@@ -28,7 +28,7 @@ fn below(plateaus: &[u16], total: u16) -> u16
 }
 
 /// The MTU for ICMPv6, from that of ICMPv4 and the total length of the embedded packet.
-pub fn mtu46(mtus: Mtus, total: u16, mtu: u16) -> u32
+pub(crate) fn mtu46(mtus: Mtus, total: u16, mtu: u16) -> u32
     ensures { result ≡ mtu46 mtus total mtu }
 {
     let told = if mtu == 0 {
@@ -42,7 +42,7 @@ pub fn mtu46(mtus: Mtus, total: u16, mtu: u16) -> u32
 }
 
 /// The MTU for ICMPv4, from that of ICMPv6.
-pub fn mtu64(mtus: Mtus, mtu: u32) -> u16
+pub(crate) fn mtu64(mtus: Mtus, mtu: u32) -> u16
     ensures { result ≡ mtu64 mtus mtu }
 {
     let narrower = mtu.max(u32::from(LEAST)) - u32::from(DIFFERENCE);

@@ -102,7 +102,10 @@ pub fn with_message64(
         length: declared(octets.as_slice().len()),
         ..*head
     };
-    let mut packet = head64(&outer, ends.src, ends.dst, id).write(alloc, &[])?;
+    let mut packet = head64(&outer, ends.src, ends.dst, id).write_front(
+        alloc,
+        octets.as_slice().len(),
+    )?;
     packet.extend(octets.as_slice())?;
     Ok(packet)
 }

@@ -9,7 +9,7 @@ use crate::layout::{GROUP, HEADER_LEN, TOTAL_AT, VERSION, VERSION_AT};
 use octets::{Addr4, word_at};
 
 /// The declared length of the header in octets, 0 to 60, a multiple of 4.
-pub fn header_len(octets: &[u8]) -> usize
+pub(crate) fn header_len(octets: &[u8]) -> usize
     requires { 0 < length octets.now }
     ensures { result ≡ header_len octets.now }
 {
@@ -17,7 +17,7 @@ pub fn header_len(octets: &[u8]) -> usize
 }
 
 /// The declared length of the packet in octets.
-pub fn total_len(octets: &[u8]) -> usize
+pub(crate) fn total_len(octets: &[u8]) -> usize
     requires { 4 ≤ length octets.now }
     ensures { result ≡ total_len octets.now }
 {
@@ -25,14 +25,14 @@ pub fn total_len(octets: &[u8]) -> usize
 }
 
 /// No octet stands, or another version.
-pub fn is_not_ip(octets: &[u8]) -> bool
+pub(crate) fn is_not_ip(octets: &[u8]) -> bool
     ensures { IsTrue result ↔ IsNotIp4 octets.now }
 {
     octets.is_empty() || octets[VERSION_AT] / 16 != VERSION
 }
 
 /// Fewer octets stand than the header, the header with its options, or the packet has.
-pub fn is_truncated(octets: &[u8]) -> bool
+pub(crate) fn is_truncated(octets: &[u8]) -> bool
     ensures { IsTrue result ↔ IsTruncated4 octets.now }
 {
     let len = octets.len();
@@ -40,7 +40,7 @@ pub fn is_truncated(octets: &[u8]) -> bool
 }
 
 /// The header's words, its sum among them, fold to 65535 (RFC 1071).
-pub fn has_right_sum(octets: &[u8]) -> bool
+pub(crate) fn has_right_sum(octets: &[u8]) -> bool
     requires some { 0 < length octets.now }
     requires whole { header_len octets.now ≤ length octets.now }
     ensures { IsTrue result ↔ IsRight (take (header_len octets.now) octets.now) }

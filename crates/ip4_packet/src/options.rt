@@ -48,7 +48,7 @@ fn is_unspent(option: &[u8]) -> bool
 
 /// Whether a source route that isn't spent is among the options. None where the octets are no list of
 /// options: an option is shorter than its kind asks, or passes the end.
-pub fn routed(octets: &[u8]) -> Option<bool>
+pub(crate) fn routed(octets: &[u8]) -> Option<bool>
     ensures { result ≡ routed_in 0 octets.now }
 {
     let mut found = false;

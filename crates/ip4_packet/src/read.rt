@@ -56,7 +56,7 @@ fn agreed(octets: &[u8]) -> Option<bool>
 }
 
 /// The fields of the header, with this finding on its options.
-pub fn fields(octets: &[u8], routed: bool) -> Head4
+pub(crate) fn fields(octets: &[u8], routed: bool) -> Head4
     requires long { 20 ≤ length octets.now }
     requires version { octet octets.now 0 / 16 ≡ 4 }
     ensures fields { HasFields4 result octets.now }

@@ -17,7 +17,7 @@ const HEADER: usize = 8;
 const QUERIES: [u8; 4] = [ECHO_REPLY4, ECHO_REQUEST4, ECHO_REQUEST6, ECHO_REPLY6];
 
 /// Whether the header doesn't stand there.
-pub fn is_bad(payload: &[u8]) -> bool
+pub(crate) fn is_bad(payload: &[u8]) -> bool
     ensures { IsTrue result ↔ (length payload.now < HEADER) }
 {
     payload.len() < HEADER
@@ -36,7 +36,7 @@ pub fn ports(payload: &[u8]) -> Ports
 }
 
 /// The sum, and octets 4 and 5 as both ports.
-pub fn read(payload: &[u8]) -> L4
+pub(crate) fn read(payload: &[u8]) -> L4
     requires { HEADER ≤ length payload.now }
     ensures { result ≡ l4_of Icmp payload.now }
 {
@@ -48,7 +48,7 @@ pub fn read(payload: &[u8]) -> L4
 }
 
 /// Replaces the sum, and the identifier of a query.
-pub fn set(payload: &mut [u8], ports: Ports, sum: u16)
+pub(crate) fn set(payload: &mut [u8], ports: Ports, sum: u16)
     requires { HEADER ≤ length payload.old }
     ensures { payload.new ≡ with_l4 Icmp payload.old ports sum }
 {

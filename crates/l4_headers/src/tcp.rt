@@ -15,7 +15,7 @@ const FLAGS: usize = 13;
 const HEADER: usize = 20;
 
 /// Whether the header doesn't stand there, or a whole packet's data offset is below it or past the payload.
-pub fn is_bad(payload: &[u8], whole: bool) -> bool
+pub(crate) fn is_bad(payload: &[u8], whole: bool) -> bool
     ensures { IsTrue result ↔ IsBadTransport Tcp payload.now whole }
 {
     if payload.len() < HEADER {
@@ -37,7 +37,7 @@ pub fn ports(payload: &[u8]) -> Ports
 }
 
 /// The header's ports, sum and flags.
-pub fn read(payload: &[u8]) -> L4
+pub(crate) fn read(payload: &[u8]) -> L4
     requires { HEADER ≤ length payload.now }
     ensures { result ≡ l4_of Tcp payload.now }
 {
@@ -49,7 +49,7 @@ pub fn read(payload: &[u8]) -> L4
 }
 
 /// Replaces the ports and the sum.
-pub fn set(payload: &mut [u8], ports: Ports, sum: u16)
+pub(crate) fn set(payload: &mut [u8], ports: Ports, sum: u16)
     requires { HEADER ≤ length payload.old }
     ensures { payload.new ≡ with_l4 Tcp payload.old ports sum }
 {

@@ -13,7 +13,7 @@ const LENGTH: usize = 4;
 const HEADER: usize = 8;
 
 /// Whether the header doesn't stand there, or a whole packet's length isn't the payload's.
-pub fn is_bad(payload: &[u8], whole: bool) -> bool
+pub(crate) fn is_bad(payload: &[u8], whole: bool) -> bool
     ensures { IsTrue result ↔ IsBadTransport Udp payload.now whole }
 {
     if payload.len() < HEADER {
@@ -34,7 +34,7 @@ pub fn ports(payload: &[u8]) -> Ports
 }
 
 /// The header's ports and sum.
-pub fn read(payload: &[u8]) -> L4
+pub(crate) fn read(payload: &[u8]) -> L4
     requires { HEADER ≤ length payload.now }
     ensures { result ≡ l4_of Udp payload.now }
 {
@@ -46,7 +46,7 @@ pub fn read(payload: &[u8]) -> L4
 }
 
 /// Replaces the ports and the sum.
-pub fn set(payload: &mut [u8], ports: Ports, sum: u16)
+pub(crate) fn set(payload: &mut [u8], ports: Ports, sum: u16)
     requires { HEADER ≤ length payload.old }
     ensures { payload.new ≡ with_l4 Udp payload.old ports sum }
 {

@@ -106,7 +106,7 @@ fn forward_fault(book: &Book, edges: &[EdgeLine], forwards: &[ForwardLine]) -> O
 }
 
 /// The forwards of these texts at their edges, or the first thing that is wrong with them under these rules.
-pub fn forwards_of(
+pub(crate) fn forwards_of(
     alloc: Global,
     book: &Book,
     edges: &[EdgeLine],

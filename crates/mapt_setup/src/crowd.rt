@@ -78,7 +78,7 @@ fn first_over(edges: &[EdgeLine], dmr: &Dmr) -> Option<usize>
 }
 
 /// The first thing that is wrong with edges beside one another and beside the default mapping rule.
-pub fn edge_fault(edges: &[EdgeLine], dmr: &Dmr) -> Option<SetupFault>
+pub(crate) fn edge_fault(edges: &[EdgeLine], dmr: &Dmr) -> Option<SetupFault>
     requires { length edges.now ≤ 256 }
     ensures { result ≡ edge_fault edges.now dmr.now }
 {

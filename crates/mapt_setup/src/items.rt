@@ -103,7 +103,7 @@ fn add_captures(
 }
 
 /// All changes and records in the order of a script.
-pub fn in_order(
+pub(crate) fn in_order(
     alloc: Global,
     changes: &[MoveLine],
     captures: &[Capture],

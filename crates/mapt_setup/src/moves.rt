@@ -112,7 +112,11 @@ fn moved(alloc: Global, book: &Book, texts: &[ChangeText]) -> Result<Changes, Se
 }
 
 /// The changes of these texts over a book of generation 0, or the first thing that is wrong with them.
-pub fn changes_of(alloc: Global, book: &Book, texts: &[ChangeText]) -> Result<Changes, SetupFault>
+pub(crate) fn changes_of(
+    alloc: Global,
+    book: &Book,
+    texts: &[ChangeText],
+) -> Result<Changes, SetupFault>
     requires first { generation_of book.now ≡ 0 }
     requires few { length texts.now ≤ 64 }
     ensures { Gives (λ changes. changes) result (changes_of (dmr_of book.now) (rules_of book.now) texts.now) }
@@ -124,7 +128,11 @@ pub fn changes_of(alloc: Global, book: &Book, texts: &[ChangeText]) -> Result<Ch
 }
 
 /// The book of generation 0 after these changes, which are accepted one after the other.
-pub fn book_after_all(alloc: Global, book: &Book, changes: &[MoveLine]) -> Result<Book, SetupFault>
+pub(crate) fn book_after_all(
+    alloc: Global,
+    book: &Book,
+    changes: &[MoveLine],
+) -> Result<Book, SetupFault>
     requires first { generation_of book.now ≡ 0 }
     requires few { length changes.now ≤ 64 }
     requires accepted { AreAccepted (dmr_of book.now) (rules_of book.now) changes.now }

@@ -12,7 +12,7 @@ use setup_tables::{Given, RuleLine, SetupCause, SetupFault};
 use std::alloc::Global;
 
 /// The rule of these parts, or `None` where they break a shape rule.
-pub fn rule_of(line: &RuleLine) -> Option<Rule>
+pub(crate) fn rule_of(line: &RuleLine) -> Option<Rule>
     ensures found { IfSome result (HasParts line.now) }
     ensures none { IfNone result (BreaksShape line.now) }
 {
@@ -60,7 +60,7 @@ fn book(alloc: Global, rules: &[Rule], dmr: Dmr) -> Result<Book, SetupFault>
 }
 
 /// The book of generation 0 by the default mapping rule and the lines of the rules.
-pub fn first_book(alloc: Global, given: &Given) -> Result<Book, SetupFault>
+pub(crate) fn first_book(alloc: Global, given: &Given) -> Result<Book, SetupFault>
     requires { length given.now.lines ≤ 256 }
     ensures { Gives (λ made. made) result (first_book given.now) }
 {

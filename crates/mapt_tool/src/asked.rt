@@ -20,13 +20,13 @@ use std::alloc::Global;
 
 /// An IPv4 address and a port of it.
 #[derive(Clone, Copy, Debug)]
-pub struct Endpoint {
+pub(crate) struct Endpoint {
     pub addr: Addr4,
     pub port: u16,
 }
 
 /// The setup of these octets.
-pub fn setup_in(alloc: Global, text: &[u8]) -> Result<Setup, Status>
+pub(crate) fn setup_in(alloc: Global, text: &[u8]) -> Result<Setup, Status>
     ensures given { Given (IsSetup text.now) result }
     ensures valid { IfOk result IsValidSetup }
 {
@@ -52,7 +52,7 @@ fn configured<F: Folder>(alloc: Global, folder: &mut F, config: &str) -> Result<
 }
 
 /// A plan that puts this text on the sink.
-pub fn saying(alloc: Global, text: &[u8]) -> Result<Plan, NoMemory>
+pub(crate) fn saying(alloc: Global, text: &[u8]) -> Result<Plan, NoMemory>
     ensures { IfOk result (λ plan. plan ≡ says text.now) }
 {
     let mut plan = Plan::new(alloc);
@@ -118,7 +118,7 @@ fn owner_said(alloc: Global, setup: &Setup, generation: u32, end: Endpoint) -> R
 }
 
 /// Prints the rules of a generation.
-pub fn rules<F: Folder>(
+pub(crate) fn rules<F: Folder>(
     alloc: Global,
     folder: &mut F,
     config: &str,
@@ -137,7 +137,7 @@ pub fn rules<F: Folder>(
 }
 
 /// Prints which edge address holds an IPv4 address and port in a generation.
-pub fn owner<F: Folder>(
+pub(crate) fn owner<F: Folder>(
     alloc: Global,
     folder: &mut F,
     config: &str,

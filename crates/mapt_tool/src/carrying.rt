@@ -35,7 +35,7 @@ fn put_text<K: Sink>(alloc: Global, out: &mut K, text: &[u8]) -> Status
 }
 
 /// Does all that is planned: the files in their order, and then the text.
-pub fn carry_out<F: Folder, K: Sink>(
+pub(crate) fn carry_out<F: Folder, K: Sink>(
     alloc: Global,
     folder: &mut F,
     out: &mut K,

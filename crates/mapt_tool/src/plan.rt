@@ -7,7 +7,7 @@ use std::marker::Model;
 
 /// A file that a command writes.
 #[derive(Debug, Drop)]
-pub struct FileWrite {
+pub(crate) struct FileWrite {
     pub file: FileId,
     pub name: Name,
     pub bytes: Bytes,
@@ -15,7 +15,7 @@ pub struct FileWrite {
 
 /// All that a command does to the outside: files in their order, and then text for the sink.
 #[derive(Drop)]
-pub struct Plan {
+pub(crate) struct Plan {
     writes: Vec<FileWrite>,
     text: Bytes,
 }
@@ -32,7 +32,7 @@ impl Plan {
     ghost use Rattle.mapt_tool.specs.Planned.{nothing_planned};
 
     /// Nothing.
-    pub fn new(alloc: Global) -> Plan
+    pub(crate) fn new(alloc: Global) -> Plan
         ensures { result ≡ nothing_planned }
     {
         Plan {
@@ -42,7 +42,7 @@ impl Plan {
     }
 
     /// One more file, after the others.
-    pub fn write(&mut self, file: FileWrite) -> Result<(), NoMemory>
+    pub(crate) fn write(&mut self, file: FileWrite) -> Result<(), NoMemory>
         ensures ok { OnOk result (self.new ≡ record self.old { writes = self.old.writes ++ file ∷ [] }) }
         ensures err { OnErr result (self.new ≡ self.old) }
     {
@@ -51,7 +51,7 @@ impl Plan {
     }
 
     /// More text, after the other.
-    pub fn say(&mut self, text: &[u8]) -> Result<(), NoMemory>
+    pub(crate) fn say(&mut self, text: &[u8]) -> Result<(), NoMemory>
         ensures ok { OnOk result (self.new ≡ record self.old { text = self.old.text ++ text.now }) }
         ensures err { OnErr result (self.new ≡ self.old) }
     {
@@ -59,14 +59,14 @@ impl Plan {
     }
 
     /// The files.
-    pub fn writes(&self) -> &[FileWrite]
+    pub(crate) fn writes(&self) -> &[FileWrite]
         ensures { result.now ≡ self.now.writes }
     {
         &self.writes
     }
 
     /// The text.
-    pub fn text(&self) -> &[u8]
+    pub(crate) fn text(&self) -> &[u8]
         ensures { result.now ≡ self.now.text }
     {
         self.text.as_slice()

@@ -62,7 +62,7 @@ fn options_said(alloc: Global, text: &[u8]) -> Result<Plan, Status>
 }
 
 /// Prints the container of DHCPv6 options in this file, and writes it again.
-pub fn options<F: Folder>(alloc: Global, folder: &mut F, file: &str) -> Result<Plan, Status>
+pub(crate) fn options<F: Folder>(alloc: Global, folder: &mut F, file: &str) -> Result<Plan, Status>
     ensures { Ended (Course (options file.now)) (F.seen folder.old) (F.seen folder.new) result }
 {
     let text = match read_text(alloc, folder, FileId::Options, file, COMMAND_LIMIT) {

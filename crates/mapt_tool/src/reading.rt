@@ -13,7 +13,7 @@ use std::alloc::Global;
 const FILE_LIMIT: u64 = 1 << 26;
 
 /// What all files of a command may have together, in octets.
-pub const COMMAND_LIMIT: u64 = 1 << 27;
+pub(crate) const COMMAND_LIMIT: u64 = 1 << 27;
 
 /// How many octets are asked for at a time.
 const PIECE: usize = 65_536;
@@ -91,7 +91,7 @@ fn read_whole<F: Folder>(
 }
 
 /// Reads a file of the command, of at most 64 MiB, where the command may still read `left` octets.
-pub fn read_text<F: Folder>(
+pub(crate) fn read_text<F: Folder>(
     alloc: Global,
     folder: &mut F,
     file: FileId,

@@ -3,7 +3,7 @@ use std::fmt;
 
 /// Why a configuration or an option file is refused: a sentence, and the status behind it.
 #[derive(Clone, Copy, Debug)]
-pub struct Refusal {
+pub(crate) struct Refusal {
     pub cause: SetupCause,
     pub place: u32,
 }

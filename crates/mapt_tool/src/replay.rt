@@ -29,7 +29,7 @@ const CORE_SUFFIX: &str = "core.pcap";
 
 /// What a replay is given beside its configuration.
 #[derive(Clone, Copy)]
-pub struct Target<'a> {
+pub(crate) struct Target<'a> {
     /// With what the names of the files begin that it writes.
     pub prefix: &'a str,
     /// How many octets the command may still read.
@@ -185,7 +185,7 @@ fn with_text<F: Folder>(
 }
 
 /// Replays a configuration: reads it and the LAN's capture that it names, and plans what is written.
-pub fn replay<F: Folder>(
+pub(crate) fn replay<F: Folder>(
     alloc: Global,
     folder: &mut F,
     config: &str,

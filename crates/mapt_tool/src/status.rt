@@ -69,7 +69,7 @@ impl From<NoMemory> for Status {
 }
 
 /// How a command ends for what is wrong with its configuration.
-pub fn status_of(fault: SetupFault) -> Status
+pub(crate) fn status_of(fault: SetupFault) -> Status
     ensures { result ≡ status_of fault }
 {
     match fault {

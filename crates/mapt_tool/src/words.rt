@@ -10,7 +10,7 @@ use octets::{Addr4, read_addr4};
 
 /// The first word of a form.
 #[derive(Clone, Copy, Debug, PartialEq, Eq)]
-pub enum Verb {
+pub(crate) enum Verb {
     Replay,
     Rules,
     Owner,
@@ -19,7 +19,7 @@ pub enum Verb {
 
 impl Verb {
     /// How it is written.
-    pub fn keyword(self) -> &'static str
+    pub(crate) fn keyword(self) -> &'static str
         ensures { result.now ≡ keyword_of self }
     {
         match self {
@@ -33,7 +33,7 @@ impl Verb {
 
 /// What may stand in one place of a form.
 #[derive(Clone, Copy, Debug, PartialEq, Eq)]
-pub enum Kind {
+pub(crate) enum Kind {
     /// This verb.
     Verb(Verb),
     /// Any text but the empty one.
@@ -55,13 +55,13 @@ const MOST_GENERATION: u32 = 64;
 const MOST_PORT: u32 = 65_535;
 
 /// `replay C P`
-pub const REPLAY: [Kind; 3] = [Kind::Verb(Verb::Replay), Kind::FileName, Kind::Text];
+pub(crate) const REPLAY: [Kind; 3] = [Kind::Verb(Verb::Replay), Kind::FileName, Kind::Text];
 
 /// `rules C G`
-pub const RULES: [Kind; 3] = [Kind::Verb(Verb::Rules), Kind::FileName, Kind::Generation];
+pub(crate) const RULES: [Kind; 3] = [Kind::Verb(Verb::Rules), Kind::FileName, Kind::Generation];
 
 /// `owner C G A X`
-pub const OWNER: [Kind; 5] = [
+pub(crate) const OWNER: [Kind; 5] = [
     Kind::Verb(Verb::Owner),
     Kind::FileName,
     Kind::Generation,
@@ -70,7 +70,7 @@ pub const OWNER: [Kind; 5] = [
 ];
 
 /// `options F`
-pub const OPTIONS: [Kind; 2] = [Kind::Verb(Verb::Options), Kind::FileName];
+pub(crate) const OPTIONS: [Kind; 2] = [Kind::Verb(Verb::Options), Kind::FileName];
 
 /// The number of decimal digits that stand after a number, as long as that isn't above the most.
 fn digits_up_to(most: u32, word: &[u8]) -> Option<u32>
@@ -134,7 +134,7 @@ fn address_of(word: &[u8]) -> Option<Addr4>
 
 impl Kind {
     /// Whether the word may stand in this place.
-    pub fn fits(self, word: &str) -> bool
+    pub(crate) fn fits(self, word: &str) -> bool
         ensures { result ≡ fits self word.now }
     {
         match self {
@@ -149,7 +149,7 @@ impl Kind {
 }
 
 /// How many words follow the form, from the first on.
-pub fn fitting(form: &[Kind], words: &[String]) -> u32
+pub(crate) fn fitting(form: &[Kind], words: &[String]) -> u32
     requires { length form.now ≤ 16 }
     ensures count { result ≡ fitting form.now (map string_bytes words.now) }
     ensures within { result ≤ length form.now }
@@ -169,7 +169,7 @@ pub fn fitting(form: &[Kind], words: &[String]) -> u32
 
 /// A command.
 #[derive(Clone, Copy, Debug)]
-pub enum Command<'a> {
+pub(crate) enum Command<'a> {
     /// Replays a configuration, and writes files whose names begin with the prefix.
     Replay {
         config: &'a str,
@@ -194,7 +194,7 @@ pub enum Command<'a> {
 }
 
 /// The number of Usage: how many words from the first on begin a form.
-pub fn usage(words: &[String]) -> u32
+pub(crate) fn usage(words: &[String]) -> u32
     ensures { result ≡ usage_number (map string_bytes words.now) }
 {
     let replay = fitting(&REPLAY, words);
@@ -320,7 +320,7 @@ fn command_in(words: &[String]) -> Option<Command<'_>>
 }
 
 /// The command that the words spell, or the number of Usage.
-pub fn command_of(words: &[String]) -> Result<Command<'_>, u32>
+pub(crate) fn command_of(words: &[String]) -> Result<Command<'_>, u32>
     ensures found { IfOk result (λ command. Asks (map string_bytes words.now) (seen command)) }
     ensures none { IfErr result (IsUsage (map string_bytes words.now)) }
 {

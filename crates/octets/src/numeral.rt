@@ -18,7 +18,7 @@ fn place_of(text: &[u8], octet: u8) -> Option<usize>
 }
 
 /// What stands before the first such octet, and what stands behind it.
-pub fn cut(text: &[u8], octet: u8) -> Option<(&[u8], &[u8])>
+pub(crate) fn cut(text: &[u8], octet: u8) -> Option<(&[u8], &[u8])>
     ensures { option_map (λ parts. (parts.0.now, parts.1.now)) result ≡ cut_at octet text.now }
 {
     let at = place_of(text, octet)?;
@@ -27,7 +27,7 @@ pub fn cut(text: &[u8], octet: u8) -> Option<(&[u8], &[u8])>
 
 /// The number that one to four digits of this radix spell.
 #[tactic(auto, unfolding(crate::specs::Numeral::numeral_at))]
-pub fn numeral(text: &[u8], radix: u32) -> Option<u32>
+pub(crate) fn numeral(text: &[u8], radix: u32) -> Option<u32>
     requires least { 2 ≤ radix }
     requires most { radix ≤ 16 }
     ensures { result ≡ numeral_at radix text.now }
@@ -44,7 +44,7 @@ pub fn numeral(text: &[u8], radix: u32) -> Option<u32>
 
 /// The number below 256 that decimal digits without leading zeros spell.
 #[tactic(auto, unfolding(crate::specs::Numeral::small_decimal_at))]
-pub fn small_decimal(text: &[u8]) -> Option<u8>
+pub(crate) fn small_decimal(text: &[u8]) -> Option<u8>
     ensures { result ≡ small_decimal_at text.now }
 {
     if text.len() > 1 && text[0] == b'0' {
@@ -54,7 +54,7 @@ pub fn small_decimal(text: &[u8]) -> Option<u8>
 }
 
 /// Adds a number in decimal digits at the end. After a refusal a part of it may stand there.
-pub fn push_decimal(text: &mut Bytes, number: u8) -> Result<(), NoMemory>
+pub(crate) fn push_decimal(text: &mut Bytes, number: u8) -> Result<(), NoMemory>
     ensures { OnOk result (text.new ≡ text.old ++ decimal number) }
 {
     let digits = [

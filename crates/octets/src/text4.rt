@@ -21,7 +21,7 @@ impl Error for BadText {}
 
 /// The number of the address that the text spells.
 #[tactic(auto, unfolding(crate::specs::Text4::addr4_at))]
-pub fn number_of_text(text: &[u8]) -> Option<u32>
+pub(crate) fn number_of_text(text: &[u8]) -> Option<u32>
     ensures { result ≡ addr4_at text.now }
 {
     let (first, rest) = cut(text, b'.')?;

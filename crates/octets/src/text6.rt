@@ -128,7 +128,7 @@ fn whole(text: &[u8]) -> Option<u128>
 
 /// The number of the address that the text spells.
 #[tactic(auto, unfolding(crate::specs::Text6::addr6_at))]
-pub fn number_of_text(text: &[u8]) -> Option<u128>
+pub(crate) fn number_of_text(text: &[u8]) -> Option<u128>
     ensures { result ≡ addr6_at text.now }
 {
     match gap(text) {

@@ -4,7 +4,7 @@ use octets::Proto;
 
 /// What was read of a packet.
 #[derive(Clone, Copy, Debug)]
-pub struct Taken {
+pub(crate) struct Taken {
     pub head: Head4,
     pub proto: Proto,
     pub ports: Ports,

@@ -11,7 +11,7 @@ use std::marker::Model;
 
 /// Files in memory: a log of what was stored, the newest first. A contract sees the finite map of them.
 #[derive(Drop)]
-pub struct Store {
+pub(crate) struct Store {
     log: VecDeque<(Name, Bytes)>,
 }
 
@@ -33,7 +33,7 @@ impl Store {
     ghost use Rattle.std.specs.Option.{option_copied};
 
     /// No files.
-    pub fn new(alloc: Global) -> Store
+    pub(crate) fn new(alloc: Global) -> Store
         ensures { result ≡ map.empty }
     {
         Store {
@@ -42,7 +42,7 @@ impl Store {
     }
 
     /// What the file holds, if it is there.
-    pub fn file(&self, name: &str) -> Option<&[u8]>
+    pub(crate) fn file(&self, name: &str) -> Option<&[u8]>
         ensures { option_copied result ≡ map.get self.now name.now }
     {
         for (stored, bytes) in &self.log {
@@ -54,7 +54,7 @@ impl Store {
     }
 
     /// Makes the file hold these octets.
-    pub fn put(&mut self, alloc: Global, name: &str, bytes: &[u8]) -> Result<(), NoMemory>
+    pub(crate) fn put(&mut self, alloc: Global, name: &str, bytes: &[u8]) -> Result<(), NoMemory>
         ensures ok { OnOk result (self.new ≡ with_file self.old name.now bytes.now) }
         ensures err { OnErr result (self.new ≡ self.old) }
     {
@@ -78,7 +78,7 @@ fn is_named(stored: &Name, name: &str) -> bool
 
 /// Copies what a file holds from an offset on to the front of a buffer, as much as there is room for, and answers how
 /// many octets. What stands behind them in the buffer stays.
-pub fn copy_piece(content: &[u8], offset: u64, buf: &mut [u8]) -> usize
+pub(crate) fn copy_piece(content: &[u8], offset: u64, buf: &mut [u8]) -> usize
     ensures within { result ≤ length buf.old }
     ensures piece { IsPieceOf content.now offset result buf.new }
     ensures fills { FillsOrEnds content.now offset result (length buf.old) }

@@ -33,7 +33,7 @@ fn write_some(out: &mut impl Write, bytes: &[u8]) -> io::Result<usize>
 }
 
 /// Reads until the buffer is full or the file ends, and answers how many octets came.
-pub fn fill(file: &mut impl Read, buf: &mut [u8]) -> io::Result<usize>
+pub(crate) fn fill(file: &mut impl Read, buf: &mut [u8]) -> io::Result<usize>
     ensures { IfOk result (λ n. n ≤ length buf.old) }
 {
     let mut filled = 0;
@@ -48,7 +48,7 @@ pub fn fill(file: &mut impl Read, buf: &mut [u8]) -> io::Result<usize>
 }
 
 /// Writes all of the octets.
-pub fn write_all(out: &mut impl Write, bytes: &[u8]) -> io::Result<()> {
+pub(crate) fn write_all(out: &mut impl Write, bytes: &[u8]) -> io::Result<()> {
     let mut written = 0;
     while written < bytes.len() {
         let count = write_some(out, &bytes[written..])?;

@@ -6,7 +6,7 @@ use crate::CaptureFault;
 use byteorder::{BigEndian, ByteOrder, LittleEndian};
 
 /// The octets of a file header.
-pub const HEADER_LEN: usize = 24;
+pub(crate) const HEADER_LEN: usize = 24;
 
 /// The places of the fields of a file header. The time zone, the accuracy and the greatest length
 /// aren't looked at.
@@ -37,21 +37,21 @@ const RAW_IP: u32 = 101;
 
 /// The order in which a file's numbers are spelled.
 #[derive(Clone, Copy, Debug, PartialEq, Eq)]
-pub enum Order {
+pub(crate) enum Order {
     Big,
     Little,
 }
 
 /// The unit of the fraction of a record's time.
 #[derive(Clone, Copy, Debug, PartialEq, Eq)]
-pub enum Unit {
+pub(crate) enum Unit {
     Micro,
     Nano,
 }
 
 /// What a file's records hold.
 #[derive(Clone, Copy, Debug, PartialEq, Eq)]
-pub enum Link {
+pub(crate) enum Link {
     /// Ethernet frames.
     Ethernet,
     /// IP packets alone.
@@ -60,7 +60,7 @@ pub enum Link {
 
 /// How a file spells its records, as its header says.
 #[derive(Clone, Copy, Debug, PartialEq, Eq)]
-pub struct Form {
+pub(crate) struct Form {
     pub order: Order,
     pub unit: Unit,
     pub link: Link,
@@ -68,7 +68,7 @@ pub struct Form {
 
 impl Order {
     /// The number of 16 bits at a place.
-    pub fn u16_at(self, octets: &[u8], at: usize) -> u16
+    pub(crate) fn u16_at(self, octets: &[u8], at: usize) -> u16
         requires { at + 2 ≤ length octets.now }
         ensures { result ≡ number self at 2 octets.now }
     {
@@ -79,7 +79,7 @@ impl Order {
     }
 
     /// The number of 32 bits at a place.
-    pub fn u32_at(self, octets: &[u8], at: usize) -> u32
+    pub(crate) fn u32_at(self, octets: &[u8], at: usize) -> u32
         requires { at + 4 ≤ length octets.now }
         ensures { result ≡ number self at 4 octets.now }
     {
@@ -92,7 +92,7 @@ impl Order {
 
 impl Unit {
     /// A fraction of a second in whole microseconds.
-    pub fn micros(self, fraction: u32) -> u32
+    pub(crate) fn micros(self, fraction: u32) -> u32
         ensures { result ≡ in_micros self fraction }
     {
         match self {
@@ -158,7 +158,7 @@ fn read_link(order: Order, octets: &[u8]) -> Result<Link, CaptureFault>
 impl Form {
     /// What the file header says, or its first fault.
     #[tactic(auto, unfolding(crate::specs::Capture::form_at))]
-    pub fn read(octets: &[u8]) -> Result<Form, CaptureFault>
+    pub(crate) fn read(octets: &[u8]) -> Result<Form, CaptureFault>
         ensures exact { Gives (λ x. x) result (form_at octets.now) }
         ensures whole { OnOk result (24 ≤ length octets.now) }
     {

@@ -42,7 +42,7 @@ fn is_tagged(frame: &[u8]) -> bool
 
 /// The packet in what was captured. It is empty where no IP packet stands there.
 #[tactic(auto, unfolding(crate::specs::Capture::packet_of))]
-pub fn packet(link: Link, captured: &[u8]) -> &[u8]
+pub(crate) fn packet(link: Link, captured: &[u8]) -> &[u8]
     ensures { result.now ≡ packet_of link captured.now }
 {
     match link {

@@ -4,7 +4,7 @@ ghost use Rattle.pcap_files.specs.Written.{is_writable, IsWritable};
 use octets::{Bytes, List};
 
 /// The greatest number of seconds that a record has room for.
-pub const MOST_SECONDS: u64 = 4_294_967_295;
+pub(crate) const MOST_SECONDS: u64 = 4_294_967_295;
 
 /// The greatest time of a record that is written, in microseconds: all that its seconds hold, and then all that its
 /// fraction holds.

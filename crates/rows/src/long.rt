@@ -31,7 +31,7 @@ fn spell(text: &mut String, word: &str) -> Result<(), RowFault> {
 }
 
 /// The line with each word of that form spelled out.
-pub fn spelled_out(alloc: Global, line: &str) -> Result<String, RowFault> {
+pub(crate) fn spelled_out(alloc: Global, line: &str) -> Result<String, RowFault> {
     let mut text = String::new(alloc);
     let mut first = true;
     for word in line.split(' ') {

@@ -11,18 +11,18 @@ use octets::{Bytes, NoMemory};
 use std::alloc::Global;
 
 /// Where the length stands in an option.
-pub const LENGTH_AT: usize = 2;
+pub(crate) const LENGTH_AT: usize = 2;
 
 /// An option as it stands: its code and its octets.
 #[derive(Clone, Copy)]
-pub struct RawOption<'a> {
+pub(crate) struct RawOption<'a> {
     pub code: u16,
     pub octets: &'a [u8],
 }
 
 /// The whole options that stand first, and the octets that are left.
 #[derive(Drop)]
-pub struct Cut<'a> {
+pub(crate) struct Cut<'a> {
     pub options: Vec<RawOption<'a>>,
     pub left: &'a [u8],
 }
@@ -32,7 +32,7 @@ impl Cut<'_> {
     ghost use Rattle.s46_options.specs.Faults.{leaves_over};
 
     /// Whether one to three octets are left, too few for an option.
-    pub fn leaves_over(&self) -> bool
+    pub(crate) fn leaves_over(&self) -> bool
         ensures { result ≡ leaves_over (cut_of self.now) }
     {
         !self.left.is_empty() && self.left.len() < HEAD_LEN
@@ -62,7 +62,7 @@ fn first_option(octets: &[u8]) -> Option<(RawOption<'_>, &[u8])>
 }
 
 /// Cuts octets into options.
-pub fn cut_options(alloc: Global, octets: &[u8]) -> Result<Cut<'_>, NoMemory>
+pub(crate) fn cut_options(alloc: Global, octets: &[u8]) -> Result<Cut<'_>, NoMemory>
     ensures options { IfOk result (λ parts. options_of parts.options.items ≡ (cut octets.now).options) }
     ensures left { IfOk result (λ parts. parts.left.now ≡ (cut octets.now).left) }
 {
@@ -76,7 +76,7 @@ pub fn cut_options(alloc: Global, octets: &[u8]) -> Result<Cut<'_>, NoMemory>
 }
 
 /// Adds an option of this code and these octets at the end.
-pub fn push_option(out: &mut Bytes, code: u16, octets: &[u8]) -> Result<(), NoMemory>
+pub(crate) fn push_option(out: &mut Bytes, code: u16, octets: &[u8]) -> Result<(), NoMemory>
     requires { length octets.now < 2 ^ 16 }
     ensures { OnOk result (out.new ≡ out.old ++ spelled (record { code = code; octets = octets.now })) }
 {

@@ -29,7 +29,7 @@ const MOST_OFFSET: u8 = 15;
 const MOST_PSID_LEN: u8 = 16;
 
 /// The port parameters that these octets of the option at a place are.
-pub fn read_params(at: u32, octets: &[u8]) -> Result<Sub, OptionFault>
+pub(crate) fn read_params(at: u32, octets: &[u8]) -> Result<Sub, OptionFault>
     requires { at + length octets.now ≤ 65535 }
     ensures sound { OnOk result (params_faults at octets.now ≡ []) }
     ensures option { IfOk result (λ sub. sub_option sub ≡ record { code = 93; octets = octets.now }) }

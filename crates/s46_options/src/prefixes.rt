@@ -13,17 +13,17 @@ use octets::{Addr4, Addr6, Bytes, NoMemory, Prefix4, Prefix6, bits_of};
 /// The greatest length of an IPv4 and of an IPv6 prefix.
 const MOST_LEN4: u8 = 32;
 
-pub const MOST_LEN6: u8 = 128;
+pub(crate) const MOST_LEN6: u8 = 128;
 
 /// The least number of whole octets that hold so many bits.
-pub fn octets_for(len: u8) -> usize
+pub(crate) fn octets_for(len: u8) -> usize
     ensures { result ≡ octets_for len }
 {
     (usize::from(len) + 7) / 8
 }
 
 /// The IPv4 prefix whose length stands at the place, and its bits behind it.
-pub fn read_prefix4(at: u32, len: u8, octets: &[u8]) -> Result<Prefix4, OptionFault>
+pub(crate) fn read_prefix4(at: u32, len: u8, octets: &[u8]) -> Result<Prefix4, OptionFault>
     requires place { at ≤ 70000 }
     requires whole { 4 ≤ length octets.now }
     ensures sound { OnOk result (over at 32 len ++ padding (at + 1) 4 (quad octets.now 0) len ≡ []) }
@@ -56,7 +56,7 @@ fn prefix_number(octets: &[u8]) -> u128
 }
 
 /// The IPv6 prefix of this length whose octets stand at the place.
-pub fn read_prefix6(at: u32, len: u8, octets: &[u8]) -> Result<Prefix6, OptionFault>
+pub(crate) fn read_prefix6(at: u32, len: u8, octets: &[u8]) -> Result<Prefix6, OptionFault>
     requires place { at ≤ 70000 }
     requires most { len ≤ 128 }
     requires whole { length octets.now ≡ octets_for len }
@@ -76,7 +76,7 @@ pub fn read_prefix6(at: u32, len: u8, octets: &[u8]) -> Result<Prefix6, OptionFa
 }
 
 /// Adds the bits of a prefix in the least number of whole octets.
-pub fn push_prefix6(out: &mut Bytes, prefix: &Prefix6) -> Result<(), NoMemory>
+pub(crate) fn push_prefix6(out: &mut Bytes, prefix: &Prefix6) -> Result<(), NoMemory>
     ensures octets { OnOk result (out.new ≡ out.old ++ prefix_octets prefix.now) }
     ensures bits { prefix.now.bits < 2 ^ 128 }
 {

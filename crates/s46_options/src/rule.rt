@@ -178,7 +178,7 @@ fn read_body(alloc: Global, at: u32, octets: &[u8], parts: &Cut<'_>) -> Result<I
 }
 
 /// The rule that these octets of the option at a place are.
-pub fn read_rule(alloc: Global, at: u32, octets: &[u8]) -> Result<Item, OptionFault>
+pub(crate) fn read_rule(alloc: Global, at: u32, octets: &[u8]) -> Result<Item, OptionFault>
     requires { at + (4 + length octets.now) ≤ 65539 }
     ensures sound { OnOk result (rule_faults at octets.now ≡ []) }
     ensures option { IfOk result (λ item. item_option item ≡ record { code = 89; octets = octets.now }) }

@@ -25,7 +25,7 @@ const MOST_AT: u64 = (1 << 52) - 1;
 
 /// What a word says to do.
 #[derive(Clone, Copy, Debug)]
-pub enum Verb {
+pub(crate) enum Verb {
     Add,
     Remove,
     Replace,
@@ -154,7 +154,7 @@ impl ChangeText {
 }
 
 /// What each table says, or the first where a key isn't as it should be.
-pub fn read_changes(alloc: Global, values: &[Value]) -> Result<ChangeTexts, SetupFault>
+pub(crate) fn read_changes(alloc: Global, values: &[Value]) -> Result<ChangeTexts, SetupFault>
     requires { length values.now ≤ 64 }
     ensures few { IfOk result (λ texts. length texts ≤ 64) }
     ensures exact { Gives (λ texts. texts) result (each SetupCause.BadChange IsChange (HasNone IsChange) (map view values.now)) }

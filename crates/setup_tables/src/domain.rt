@@ -66,7 +66,7 @@ impl Required {
 }
 
 /// A name in memory of its own.
-pub fn name_of(alloc: Global, text: Option<&str>) -> Result<Option<Name>, NoMemory>
+pub(crate) fn name_of(alloc: Global, text: Option<&str>) -> Result<Option<Name>, NoMemory>
     ensures { IfOk result (λ name. name ≡ option_copied text.entry) }
 {
     match text {

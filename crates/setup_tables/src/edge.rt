@@ -32,7 +32,7 @@ pub struct EdgeLine {
 pub type Edges = List<EdgeLine>;
 
 /// A text in memory of its own.
-pub fn bytes_of(alloc: Global, text: &str) -> Result<Bytes, NoMemory>
+pub(crate) fn bytes_of(alloc: Global, text: &str) -> Result<Bytes, NoMemory>
     ensures { IfOk result (λ bytes. bytes ≡ text.now) }
 {
     let mut bytes = Bytes::new(alloc);
@@ -74,7 +74,7 @@ impl EdgeLine {
 }
 
 /// What each table says, or the first where a key isn't as it should be.
-pub fn read_edges(alloc: Global, values: &[Value]) -> Result<Edges, SetupFault>
+pub(crate) fn read_edges(alloc: Global, values: &[Value]) -> Result<Edges, SetupFault>
     requires { length values.now ≤ 256 }
     ensures few { IfOk result (λ edges. length edges ≤ 256) }
     ensures exact { Gives (λ edges. edges) result (each SetupCause.BadEdge IsEdge (HasNone IsEdge) (map view values.now)) }

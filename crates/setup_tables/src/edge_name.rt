@@ -33,7 +33,7 @@ fn is_edge_name(text: &[u8]) -> bool
 }
 
 /// The edge's name at a key.
-pub fn name_at<'a>(table: &'a Table, key: &str) -> Option<&'a str>
+pub(crate) fn name_at<'a>(table: &'a Table, key: &str) -> Option<&'a str>
     ensures { option_copied result ≡ edge_name_at key.now (table_view table.now) }
 {
     let name = text_at(table, key)?;

@@ -101,7 +101,7 @@ impl ForwardText {
 }
 
 /// What each table says, or the first where a key isn't as it should be.
-pub fn read_forwards(alloc: Global, values: &[Value]) -> Result<ForwardTexts, SetupFault>
+pub(crate) fn read_forwards(alloc: Global, values: &[Value]) -> Result<ForwardTexts, SetupFault>
     requires { length values.now ≤ 256 }
     ensures few { IfOk result (λ texts. length texts ≤ 256) }
     ensures exact { Gives (λ texts. texts) result (each SetupCause.BadForward IsForward (HasNone IsForward) (map view values.now)) }

@@ -10,7 +10,7 @@ ghost use Rattle.setup_tables.specs.Keys.{has_key, has_only, is_table, table_at,
 use toml::{Table, Value};
 
 /// The value at a key.
-pub fn value_at<'a>(table: &'a Table, key: &str) -> Option<&'a Value>
+pub(crate) fn value_at<'a>(table: &'a Table, key: &str) -> Option<&'a Value>
     ensures { option_map (λ v. view v.now) result ≡ get_member key.now (table_view table.now) }
 {
     table.get(key)
@@ -29,7 +29,7 @@ fn is_among(known: &[&str], name: &str) -> bool
 }
 
 /// Whether no name stands there but these.
-pub fn has_only(table: &Table, known: &[&str]) -> bool
+pub(crate) fn has_only(table: &Table, known: &[&str]) -> bool
     ensures { result ≡ has_only (map (λ name. name.now) known.now) (table_view table.now) }
 {
     for name in table.keys() {
@@ -41,28 +41,28 @@ pub fn has_only(table: &Table, known: &[&str]) -> bool
 }
 
 /// Whether a key stands there.
-pub fn has_key(table: &Table, key: &str) -> bool
+pub(crate) fn has_key(table: &Table, key: &str) -> bool
     ensures { result ≡ has_key key.now (table_view table.now) }
 {
     value_at(table, key).is_some()
 }
 
 /// The text at a key.
-pub fn text_at<'a>(table: &'a Table, key: &str) -> Option<&'a str>
+pub(crate) fn text_at<'a>(table: &'a Table, key: &str) -> Option<&'a str>
     ensures { option_copied result ≡ text_at key.now (table_view table.now) }
 {
     value_at(table, key)?.as_str()
 }
 
 /// The table at a key.
-pub fn table_at<'a>(table: &'a Table, key: &str) -> Option<&'a Table>
+pub(crate) fn table_at<'a>(table: &'a Table, key: &str) -> Option<&'a Table>
     ensures { option_map (λ found. table_view found.now) result ≡ table_at key.now (table_view table.now) }
 {
     value_at(table, key)?.as_table()
 }
 
 /// The text at a key that may be missing, or `None` where another type stands there.
-pub fn optional_text_at<'a>(table: &'a Table, key: &str) -> Option<Option<&'a str>>
+pub(crate) fn optional_text_at<'a>(table: &'a Table, key: &str) -> Option<Option<&'a str>>
     ensures { option_map option_copied result ≡ optional_text_at key.now (table_view table.now) }
 {
     match value_at(table, key) {
@@ -75,7 +75,7 @@ pub fn optional_text_at<'a>(table: &'a Table, key: &str) -> Option<Option<&'a st
 }
 
 /// The whole number from `least` to `most` at a key.
-pub fn number_at(table: &Table, key: &str, least: u16, most: u16) -> Option<u16>
+pub(crate) fn number_at(table: &Table, key: &str, least: u16, most: u16) -> Option<u16>
     ensures value { result ≡ number_at key.now least most (table_view table.now) }
     ensures least { IfSome result (λ n. least ≤ n) }
     ensures most { IfSome result (λ n. n ≤ most) }
@@ -100,14 +100,14 @@ fn long_in(value: &Value, most: u64) -> Option<u64>
 }
 
 /// The whole number of at most `most` at a key.
-pub fn long_at(table: &Table, key: &str, most: u64) -> Option<u64>
+pub(crate) fn long_at(table: &Table, key: &str, most: u64) -> Option<u64>
     ensures { result ≡ number_at key.now 0 most (table_view table.now) }
 {
     long_in(value_at(table, key)?, most)
 }
 
 /// The same, or the default where the key is missing.
-pub fn long_or(default: u64, table: &Table, key: &str, most: u64) -> Option<u64>
+pub(crate) fn long_or(default: u64, table: &Table, key: &str, most: u64) -> Option<u64>
     ensures { result ≡ number_or default key.now most (table_view table.now) }
 {
     match value_at(table, key) {
@@ -117,7 +117,7 @@ pub fn long_or(default: u64, table: &Table, key: &str, most: u64) -> Option<u64>
 }
 
 /// The number of at most `most` at a key, or the default where the key is missing.
-pub fn number_or(default: u16, table: &Table, key: &str, most: u16) -> Option<u16>
+pub(crate) fn number_or(default: u16, table: &Table, key: &str, most: u16) -> Option<u16>
     ensures { result ≡ number_or default key.now most (table_view table.now) }
 {
     match value_at(table, key) {
@@ -127,7 +127,7 @@ pub fn number_or(default: u16, table: &Table, key: &str, most: u16) -> Option<u1
 }
 
 /// The flag at a key, or the default where the key is missing.
-pub fn flag_or(default: bool, table: &Table, key: &str) -> Option<bool>
+pub(crate) fn flag_or(default: bool, table: &Table, key: &str) -> Option<bool>
     ensures { result ≡ flag_or default key.now (table_view table.now) }
 {
     match value_at(table, key) {
@@ -137,7 +137,7 @@ pub fn flag_or(default: bool, table: &Table, key: &str) -> Option<bool>
 }
 
 /// The list of tables at a key, which has none where the key is missing.
-pub fn tables_at<'a>(table: &'a Table, key: &str) -> Option<&'a [Value]>
+pub(crate) fn tables_at<'a>(table: &'a Table, key: &str) -> Option<&'a [Value]>
     ensures { option_map (λ values. map view values.now) result ≡ tables_at key.now (table_view table.now) }
 {
     match value_at(table, key) {

@@ -56,7 +56,7 @@ impl RuleLine {
 }
 
 /// What each table says, or the first where a key isn't as it should be.
-pub fn read_lines(alloc: Global, values: &[Value]) -> Result<RuleLines, SetupFault>
+pub(crate) fn read_lines(alloc: Global, values: &[Value]) -> Result<RuleLines, SetupFault>
     requires { length values.now ≤ 256 }
     ensures few { IfOk result (λ lines. length lines ≤ 256) }
     ensures exact { Gives (λ lines. lines) result (each SetupCause.BadRule IsRule (HasNone IsRule) (map view values.now)) }

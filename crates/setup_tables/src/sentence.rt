@@ -3,7 +3,7 @@ use std::fmt;
 
 /// Why a configuration or an option file is refused, as a sentence that names the element at its place.
 #[derive(Clone, Copy, Debug)]
-pub struct Sentence {
+pub(crate) struct Sentence {
     pub cause: SetupCause,
     pub place: u32,
 }

@@ -14,7 +14,7 @@ use octets::{Addr4, Prefix4, Prefix6, read_addr4, read_prefix4, read_prefix6};
 use toml::Table;
 
 /// The IPv4 address at a key.
-pub fn addr4_at(table: &Table, key: &str) -> Option<Addr4>
+pub(crate) fn addr4_at(table: &Table, key: &str) -> Option<Addr4>
     ensures found { IfSome result (HasAddr4 key.now (table_view table.now)) }
     ensures only { (a : Addr4Type) → HasAddr4 key.now (table_view table.now) a → IsSomeAnd result (λ b. b.0 ≡ a.0) }
 {
@@ -22,7 +22,7 @@ pub fn addr4_at(table: &Table, key: &str) -> Option<Addr4>
 }
 
 /// The IPv4 prefix at a key.
-pub fn prefix4_at(table: &Table, key: &str) -> Option<Prefix4>
+pub(crate) fn prefix4_at(table: &Table, key: &str) -> Option<Prefix4>
     ensures found { IfSome result (HasPrefix4 key.now (table_view table.now)) }
     ensures only { (p : Prefix4Type)
         → HasPrefix4 key.now (table_view table.now) p
@@ -32,7 +32,7 @@ pub fn prefix4_at(table: &Table, key: &str) -> Option<Prefix4>
 }
 
 /// The IPv6 prefix at a key.
-pub fn prefix6_at(table: &Table, key: &str) -> Option<Prefix6>
+pub(crate) fn prefix6_at(table: &Table, key: &str) -> Option<Prefix6>
     ensures found { IfSome result (HasPrefix6 key.now (table_view table.now)) }
     ensures only { (p : Prefix6Type)
         → HasPrefix6 key.now (table_view table.now) p
@@ -42,7 +42,7 @@ pub fn prefix6_at(table: &Table, key: &str) -> Option<Prefix6>
 }
 
 /// The default mapping rule whose prefix stands at a key.
-pub fn dmr_at(table: &Table, key: &str) -> Option<Dmr>
+pub(crate) fn dmr_at(table: &Table, key: &str) -> Option<Dmr>
     ensures found { IfSome result (HasDmr key.now (table_view table.now)) }
     ensures none { IfNone result ((d : DmrType) → HasDmr key.now (table_view table.now) d → ⊥) }
 {

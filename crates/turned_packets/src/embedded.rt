@@ -81,7 +81,7 @@ fn turn_transport(octets: &mut [u8], new: &NewEnd, inner: &Inner4)
 }
 
 /// The octets that begin with this embedded packet, with the new end in it.
-pub fn turned_embedded(
+pub(crate) fn turned_embedded(
     alloc: Global,
     new: &NewEnd,
     inner: &Inner4,

@@ -10,14 +10,14 @@ use octets::Addr4;
 
 /// An end of a packet.
 #[derive(Clone, Copy)]
-pub enum End {
+pub(crate) enum End {
     Source,
     Destination,
 }
 
 /// The address and the port that come to stand at an end.
 #[derive(Clone, Copy)]
-pub struct NewEnd {
+pub(crate) struct NewEnd {
     pub end: End,
     pub addr: Addr4,
     pub port: u16,
@@ -35,7 +35,7 @@ impl End {
     }
 
     /// The address there.
-    pub fn address_at(self, head: &Head4) -> Addr4
+    pub(crate) fn address_at(self, head: &Head4) -> Addr4
         ensures { result ≡ address_at (end_in self) head.now }
     {
         match self {
@@ -45,7 +45,7 @@ impl End {
     }
 
     /// The port there.
-    pub fn port_at(self, ports: Ports) -> u16
+    pub(crate) fn port_at(self, ports: Ports) -> u16
         ensures { result ≡ port_at (end_in self) ports }
     {
         match self {
@@ -55,7 +55,7 @@ impl End {
     }
 
     /// The header with another address there.
-    pub fn with_address(self, addr: Addr4, head: &Head4) -> Head4
+    pub(crate) fn with_address(self, addr: Addr4, head: &Head4) -> Head4
         ensures { result ≡ with_address (end_in self) addr head.now }
     {
         match self {
@@ -65,7 +65,7 @@ impl End {
     }
 
     /// The ports with another one there.
-    pub fn with_port(self, port: u16, ports: Ports) -> Ports
+    pub(crate) fn with_port(self, port: u16, ports: Ports) -> Ports
         ensures { result ≡ with_port (end_in self) port ports }
     {
         match self {
@@ -77,7 +77,7 @@ impl End {
 
 impl NewEnd {
     /// The same end of a flow in the packet that an error embeds, which went the other way.
-    pub fn embedded(&self) -> NewEnd
+    pub(crate) fn embedded(&self) -> NewEnd
         ensures { new_end_in result ≡ embedded_end (new_end_in self.now) }
     {
         NewEnd {

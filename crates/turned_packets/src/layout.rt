@@ -12,7 +12,7 @@ use l4_headers::place::{
 use octets::Proto;
 
 /// The address of an end, in octets from the start of the IPv4 header.
-pub fn address_place(end: End) -> usize
+pub(crate) fn address_place(end: End) -> usize
     ensures { result ≡ address_place (end_in end) }
 {
     match end {
@@ -22,7 +22,7 @@ pub fn address_place(end: End) -> usize
 }
 
 /// The port of an end, in octets from the start of the transport header.
-pub fn port_place(proto: Proto, end: End) -> usize
+pub(crate) fn port_place(proto: Proto, end: End) -> usize
     ensures { result ≡ port_place proto (end_in end) }
 {
     match (proto, end) {
@@ -33,7 +33,7 @@ pub fn port_place(proto: Proto, end: End) -> usize
 }
 
 /// The sum, in octets from the start of the transport header.
-pub fn sum_place(proto: Proto) -> usize
+pub(crate) fn sum_place(proto: Proto) -> usize
     ensures { result ≡ sum_place proto }
 {
     match proto {

@@ -13,7 +13,7 @@ use l4_headers::{L4, address_sum4, followed_by};
 use octets::{Addr4, Bytes, NoMemory, Proto};
 
 /// The sum `sum` after words of sum `old` that it covers became words of sum `new`. A UDP sum that is missing stays so.
-pub fn changed_sum(proto: Proto, sum: u16, old: u64, new: u64) -> u16
+pub(crate) fn changed_sum(proto: Proto, sum: u16, old: u64, new: u64) -> u16
     ensures { result ≡ changed_sum proto sum old new }
 {
     match proto {
@@ -24,7 +24,7 @@ pub fn changed_sum(proto: Proto, sum: u16, old: u64, new: u64) -> u16
 }
 
 /// The sum of the words at one end that a transport sum covers.
-pub fn end_words(proto: Proto, addr: Addr4, port: u16) -> u64
+pub(crate) fn end_words(proto: Proto, addr: Addr4, port: u16) -> u64
     ensures { result ≡ end_words proto addr port }
 {
     match proto {
@@ -34,7 +34,7 @@ pub fn end_words(proto: Proto, addr: Addr4, port: u16) -> u64
 }
 
 /// The octets of `front`, followed by a TCP or UDP payload with its header behind this one, with the new port at its end.
-pub fn turned_segment(
+pub(crate) fn turned_segment(
     front: Bytes,
     new: &NewEnd,
     head: &Head4,

@@ -106,7 +106,7 @@ fn turned(alloc: Global, new: &NewEnd, packet: &Packet4, octets: &[u8]) -> Resul
 {
     let payload = packet.head.payload(octets);
     let head = turned_head(new, &packet.head, payload.len() as u16);
-    let front = head.write(alloc, &[])?;
+    let front = head.write_front(alloc, payload.len())?;
     turned_payload(alloc, front, new, packet, payload)
 }
 
