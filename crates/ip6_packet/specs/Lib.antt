@@ -1,5 +1,6 @@
 pub mod Causes
 pub mod Chain
+pub mod Destination
 pub mod Embedded
 pub mod Fragment
 pub mod Grammar

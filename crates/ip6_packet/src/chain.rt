@@ -106,7 +106,7 @@ fn end_of(place: u32, number: u8, octets: &[u8]) -> Option<Chain>
 
 /// The chain in the declared payload of a packet, behind an IPv6 header that names `first` as the next.
 /// None where a header passes the payload, or a second Fragment Header stands.
-pub fn chain_of(first: u8, payload: &[u8]) -> Option<Chain>
+pub(crate) fn chain_of(first: u8, payload: &[u8]) -> Option<Chain>
     requires { length payload.now < 65536 }
     ensures value { result ≡ chain_in 40 first 0 payload.now }
     ensures within { IfSome result (λ found. (40 ≤ found.start) × (found.start ≤ 40 + length payload.now)) }

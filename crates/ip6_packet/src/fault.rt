@@ -9,7 +9,7 @@ use crate::layout::{GROUP, HEADER_LEN, LENGTH_AT, VERSION, VERSION_AT};
 use octets::{Addr6, is_wrong_fragment, word_at};
 
 /// The declared length of what stands behind the IPv6 header, in octets.
-pub fn payload_len(octets: &[u8]) -> usize
+pub(crate) fn payload_len(octets: &[u8]) -> usize
     requires { 6 ≤ length octets.now }
     ensures value { result ≡ payload_len octets.now }
     ensures below { result < 65536 }
@@ -18,21 +18,21 @@ pub fn payload_len(octets: &[u8]) -> usize
 }
 
 /// No octet stands, or another version.
-pub fn is_not_ip(octets: &[u8]) -> bool
+pub(crate) fn is_not_ip(octets: &[u8]) -> bool
     ensures { IsTrue result ↔ IsNotIp6 octets.now }
 {
     octets.is_empty() || octets[VERSION_AT] / 16 != VERSION
 }
 
 /// Fewer octets stand than the header or the packet has.
-pub fn is_truncated(octets: &[u8]) -> bool
+pub(crate) fn is_truncated(octets: &[u8]) -> bool
     ensures { IsTrue result ↔ IsTruncated6 octets.now }
 {
     octets.len() < HEADER_LEN || octets.len() < HEADER_LEN + payload_len(octets)
 }
 
 /// There is a Fragment Header, and it disagrees with the length of the payload behind it.
-pub fn is_wrong_frag(frag: Option<Frag6>, len: usize) -> bool
+pub(crate) fn is_wrong_frag(frag: Option<Frag6>, len: usize) -> bool
     requires { len < 65536 }
     ensures { IsTrue result ↔ IsWrongFrag6 frag len }
 {

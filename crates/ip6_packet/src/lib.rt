@@ -3,6 +3,7 @@
 #![tactic(auto)]
 
 mod chain;
+mod destination;
 mod embedded;
 mod fault;
 mod head;
@@ -10,6 +11,8 @@ mod laws;
 mod layout;
 mod read;
 
+pub use chain::Chain;
+pub use destination::destination_of;
 pub use fault::is_no_destination;
 pub use head::{Frag6, Head6};
 pub use laws::{chains_are_read_by_their_grammar, equal_headers_are_the_same};

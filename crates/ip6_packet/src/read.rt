@@ -30,7 +30,7 @@ fn agreed(octets: &[u8]) -> Option<Chain>
 }
 
 /// The fields of the headers, the chain of which leads to this.
-pub fn fields(octets: &[u8], chain: Chain) -> Head6
+pub(crate) fn fields(octets: &[u8], chain: Chain) -> Head6
     requires long { 40 ≤ length octets.now }
     requires version { octet octets.now 0 / 16 ≡ 6 }
     requires within { (40 ≤ chain.start) × (chain.start ≤ 40 + payload_len octets.now) }

@@ -9,3 +9,4 @@ pub mod Names
 pub mod ChangePlaces
 pub mod FirstNames
 pub mod Same
+pub mod OutsideDefault

@@ -1,5 +1,5 @@
 -- What the rules of one generation keep to (RFC 7597, section 5, and the limits of this project).
-use Rattle.std.specs.Prelude.{ℕ, ◌≤◌, Bool, List, length}
+use Rattle.std.specs.Prelude.{ℕ, ◌<◌, ◌≤◌, ◌^◌, Bool, List, length}
 use Rattle.std.specs.List.{All, AllPairs}
 use Rattle.map_rules.specs.declared.rule.Rule.{Rule}
 use Rattle.map_rules.specs.declared.dmr.Dmr.{Dmr}
@@ -28,3 +28,13 @@ pub record IsValid (rules : List Rule) (dmr : Dmr) : Type 0 where
   pub apart4 : AllPairs (λ r s. ¬ Overlaps4 r.prefix4 s.prefix4) rules
   pub apart6 : AllPairs (λ r s. ¬ Overlaps6 r.prefix6 s.prefix6) rules
   pub apart_dmr : All (λ r. ¬ Overlaps6 r.prefix6 dmr.prefix) rules
+
+-- the prefixes of a rule are numbers of 32 and of 128 bits, as their types keep them
+pub record FitsRule (r : Rule) : Type 0 where
+  pub prefix4 : r.prefix4.bits < 2 ^ 32
+  pub prefix6 : r.prefix6.bits < 2 ^ 128
+
+-- so are those of rules and of the default mapping rule
+pub record FitBook (rules : List Rule) (dmr : Dmr) : Type 0 where
+  pub each : All FitsRule rules
+  pub default : dmr.prefix.bits < 2 ^ 128

@@ -26,11 +26,12 @@ use Rattle.rule_book.specs.Far.{has_addr6, far_of, far_by_rule, far_under, far_w
 use Rattle.rule_book.specs.Holder.{Holder, has_edge, holder_under, holder_of}
 use Rattle.rule_book.specs.Overlap.{begins6, Overlaps6}
 use Rattle.rule_book.specs.Owner.{owner_of, forward_of}
+use Rattle.rule_book.proofs.OutsideDefault.{outside_default, first_rule, other_rules, owned_has, below_power}
 use Rattle.nat_model.specs.Remote.{reached}
 use Rattle.nat_model.specs.State.{Generation}
 use Rattle.trace_text.specs.Answered.{AreRulesOf}
 use Rattle.trace_text.specs.Behind.{ipv4_behind}
-use Rattle.trace_text.specs.Numbers.{FitsRule}
+use Rattle.rule_book.specs.Valid.{FitsRule}
 
 -- ---- what is accepted
 
@@ -87,38 +88,6 @@ accepted rules dmr s port a e = by (has_addr6 dmr.prefix s) e
 
 -- ---- addresses of edges
 
--- two prefixes that have an address in common overlap: the shorter begins the longer
-begins_common : (a b : Prefix6) (x : ℕ) → a.bits / 2 ^ (128 - a.len) ≡ x / 2 ^ (128 - a.len) → b.bits / 2 ^ (128 - b.len) ≡ x / 2 ^ (128 - b.len) → a.len ≤ b.len → begins6 a b ≡ true
-begins_common a b x in_a in_b shorter =
-    let whole : 128 - b.len + (b.len - a.len) ≡ 128 - a.len = omega (arith, b.within) in
-    let of_b : b.bits / 2 ^ (128 - b.len) / 2 ^ (b.len - a.len) ≡ b.bits / 2 ^ (128 - a.len) = shr-shr b.bits (128 - b.len) (b.len - a.len) ∙ ap (λ n. b.bits / 2 ^ n) whole in
-    let of_x : x / 2 ^ (128 - b.len) / 2 ^ (b.len - a.len) ≡ x / 2 ^ (128 - a.len) = shr-shr x (128 - b.len) (b.len - a.len) ∙ ap (λ n. x / 2 ^ n) whole in
-    let same : a.bits / 2 ^ (128 - a.len) ≡ b.bits / 2 ^ (128 - a.len) = in_a ∙ sym of_x ∙ ap (λ y. y / 2 ^ (b.len - a.len)) (sym in_b) ∙ of_b in
-    let len : nat_le a.len b.len ≡ true = grind (arith, nat_tests) in
-    let bits : (a.bits / 2 ^ (128 - a.len) == b.bits / 2 ^ (128 - a.len)) ≡ true = grind (arith, nat_tests) in
-    rw (len, bits) refl
-
-equal_from_test : (x y : ℕ) → (x == y) ≡ true → x ≡ y
-equal_from_test x y is = grind (arith, nat_tests)
-
-either_way : (m n : ℕ) → (m ≤ n) ⊎ (n ≤ m)
-either_way m n = elim (nat_le m n) as (λ b. nat_le m n ≡ b → (m ≤ n) ⊎ (n ≤ m)) [ true ↦ λ e. inl (grind (arith, nat_tests)) | false ↦ λ e. inr (grind (arith, nat_tests)) ] refl
-
-overlap_common : (a b : Prefix6) (x : ℕ) → a.bits / 2 ^ (128 - a.len) ≡ x / 2 ^ (128 - a.len) → b.bits / 2 ^ (128 - b.len) ≡ x / 2 ^ (128 - b.len) → Overlaps6 a b
-overlap_common a b x of_a of_b =
-    elim (either_way a.len b.len) [
-      | inl shorter ↦ ap (λ t. t || begins6 b a) (begins_common a b x of_a of_b shorter)
-      | inr shorter ↦ ap (λ t. begins6 a b || t) (begins_common b a x of_b of_a shorter) ∙ or-true (begins6 a b)
-    ]
-
-no_test : (b : Bool) → (b ≡ true → ⊥) → b ≡ false
-no_test true never = absurd (never refl)
-no_test false never = refl
-
--- a MAP address is in no default mapping rule that its own rule doesn't overlap
-outside_default : (rule : Rule) (dmr : Dmr) (s addr v : ℕ) → IsSource rule s addr v → ¬ Overlaps6 rule.prefix6 dmr.prefix → has_addr6 dmr.prefix s ≡ false
-outside_default rule dmr s addr v is apart = no_test (has_addr6 dmr.prefix s) (λ inside. apart (overlap_common rule.prefix6 dmr.prefix s (address-inside rule s addr v is) (equal_from_test _ _ inside)))
-
 own_holds : (rule : Rule) (dmr : Dmr) (s addr v : ℕ) → IsSource rule s addr v → ¬ Overlaps6 rule.prefix6 dmr.prefix → ipv4_behind dmr s ≡ Some addr
 own_holds rule dmr s addr v is apart = by (has_addr6 dmr.prefix s) (outside_default rule dmr s addr v is apart)
   where
@@ -128,13 +97,6 @@ own_holds rule dmr s addr v is apart = by (has_addr6 dmr.prefix s) (outside_defa
     by : (b : Bool) → b ≡ false → cond b (extract_of dmr.prefix.bits dmr.prefix.len s) (Some (carried_addr s)) ≡ Some addr
     by true e = absurd (false≢true (sym e))
     by false _ = ap (λ (n : ℕ). some_number n) (source-addr rule s addr v is)
-
--- the first of the rules, and the others
-first_rule : (P : Rule → Type 0) (r : Rule) (rules : List Rule) → All P (r ∷ rules) → P r
-first_rule P r rules all = all 0 r (omega arith)
-
-other_rules : (P : Rule → Type 0) (r : Rule) (rules : List Rule) → All P (r ∷ rules) → All P rules
-other_rules P r rules all = λ k d within. all (suc k) d (omega arith)
 
 -- what a rule gives an edge holds the edge's address
 under_source : (rule : Rule) (prefix : Prefix6) → rule.prefix4.bits < 2 ^ 32 → IsSource rule (holder_under rule prefix).own6 (edge_address rule prefix.bits) (edge_psid rule prefix.bits)
@@ -160,15 +122,9 @@ holder_holds (r ∷ rules) dmr prefix h fit apart e = by (has_edge prefix r) (ho
 -- ---- addresses of destinations
 
 owned_holds : (rules : List Rule) (dmr : Dmr) (addr port s : ℕ) → addr < 2 ^ 32 → All (λ (r : Rule). ¬ Overlaps6 r.prefix6 dmr.prefix) rules → owner_of rules addr port ≡ Some s → ipv4_behind dmr s ≡ Some addr
-owned_holds [] dmr addr port s fits apart e = cc
-owned_holds (r ∷ rules) dmr addr port s fits apart e = by (ce6_of r addr port) refl (owned_holds rules dmr addr port s fits (other_rules (λ (r : Rule). ¬ Overlaps6 r.prefix6 dmr.prefix) r rules apart)) e
-  where
-    by : (o : Option ℕ) → ce6_of r addr port ≡ o → (owner_of rules addr port ≡ Some s → ipv4_behind dmr s ≡ Some addr) → option_or o (owner_of rules addr port) ≡ Some s → ipv4_behind dmr s ≡ Some addr
-    by None is later found = later found
-    by (Some x) is later found =
-        let same : x ≡ s = cc in
-        let source = (source-ce6 r x addr port fits is).0 in
-        subst (λ (n : ℕ). ipv4_behind dmr n ≡ Some addr) same (own_holds r dmr x addr _ source (first_rule (λ (r : Rule). ¬ Overlaps6 r.prefix6 dmr.prefix) r rules apart))
+owned_holds rules dmr addr port s fits apart e =
+    owned_has (λ (r : Rule). ¬ Overlaps6 r.prefix6 dmr.prefix) (λ (n : ℕ). ipv4_behind dmr n ≡ Some addr) rules addr port s fits apart
+    (λ rule x v is source. own_holds rule dmr x addr v source is) e
 
 -- an embedded address is one too
 passes : (x y : ℕ) → x ≡ y → (x == y) ≡ true
@@ -186,12 +142,6 @@ embedded_holds dmr addr fits = by (has_addr6 dmr.prefix (embedded dmr.prefix.bit
 
 -- ---- numbers of 128 bits
 
-below_power : (x y m n : ℕ) → x / 2 ^ m ≡ y / 2 ^ m → y < 2 ^ (n + m) → x < 2 ^ (n + m)
-below_power x y m n same small =
-    let width : 2 ^ (n + m) ≡ 2 ^ n * 2 ^ m = power (n + m) n m (omega arith) in
-    let low : y / 2 ^ m < 2 ^ n = (div-lt_iff_lt-mul (pow_pos m)).1 (subst (λ (w : ℕ). y < w) width small) in
-    subst (λ (w : ℕ). x < w) (sym width) ((div-lt_iff_lt-mul (pow_pos m)).0 (subst (λ (q : ℕ). q < 2 ^ n) (sym same) low))
-
 pub embedded_small : (dmr : Dmr) (addr : ℕ) → dmr.prefix.bits < 2 ^ 128 → addr < 2 ^ 32 → embedded dmr.prefix.bits dmr.prefix.len addr < 2 ^ 128
 embedded_small dmr addr small fits =
     let inside = embedded-inside dmr.prefix.bits dmr.prefix.len addr dmr.valid dmr.prefix.clear fits in
@@ -200,16 +150,9 @@ embedded_small dmr addr small fits =
     (below_power (embedded dmr.prefix.bits dmr.prefix.len addr) dmr.prefix.bits (128 - dmr.prefix.len) dmr.prefix.len (sym inside) (subst (λ (n : ℕ). dmr.prefix.bits < 2 ^ n) (sym all) small))
 
 pub owned_small : (rules : List Rule) (addr port s : ℕ) → addr < 2 ^ 32 → All FitsRule rules → owner_of rules addr port ≡ Some s → s < 2 ^ 128
-owned_small [] addr port s fits fit e = cc
-owned_small (r ∷ rules) addr port s fits fit e = by (ce6_of r addr port) refl (owned_small rules addr port s fits (other_rules FitsRule r rules fit)) e
-  where
-    by : (o : Option ℕ) → ce6_of r addr port ≡ o → (owner_of rules addr port ≡ Some s → s < 2 ^ 128) → option_or o (owner_of rules addr port) ≡ Some s → s < 2 ^ 128
-    by None is later found = later found
-    by (Some x) is later found =
-        let same : x ≡ s = cc in
-        let source = (source-ce6 r x addr port fits is).0 in
-        let small = address-small r addr _ (first_rule FitsRule r rules fit).prefix6 fits source.psid in
-        subst (λ (n : ℕ). n < 2 ^ 128) (source.whole ∙ same) small
+owned_small rules addr port s fits fit e =
+    owned_has FitsRule (λ (n : ℕ). n < 2 ^ 128) rules addr port s fits fit
+    (λ rule x v is source. subst (λ (n : ℕ). n < 2 ^ 128) source.whole (address-small rule addr v is.prefix6 fits source.psid)) e
 
 -- what is embedded in an address is what stands behind it
 pub extracted_holds : (dmr : Dmr) (s addr : ℕ) → extract_of dmr.prefix.bits dmr.prefix.len s ≡ Some addr → ipv4_behind dmr s ≡ Some addr

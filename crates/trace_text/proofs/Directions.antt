@@ -48,7 +48,8 @@ use Rattle.crossing.proofs.Over.{Seen, seen, over_crosses}
 use Rattle.crossing.proofs.Uncut.{FlowIs}
 use Rattle.trace_text.specs.Answered.{Step, AreRulesOf, AnsweredOut, AnsweredIn, rules_of_step}
 use Rattle.trace_text.specs.Behind.{ipv4_behind}
-use Rattle.trace_text.specs.Numbers.{FitBook, FitsAnswer}
+use Rattle.rule_book.specs.Valid.{FitBook}
+use Rattle.trace_text.specs.Numbers.{FitsAnswer}
 use Rattle.trace_text.specs.Hops.{IsTaken4, EdgeSends, EdgeReceives, IsEmitted, RelaySends, ArePortsOf4}
 use Rattle.trace_text.specs.Crossings.{Passed, Setting, IsNumbered, ToRelay, FromRelay, EdgeAnswer, EdgeToEdge, IsOneStep, crossing_with}
 use Rattle.trace_text.proofs.Machine.{way_out, way_in}

@@ -4,7 +4,7 @@ use Rattle.octets.specs.declared.mtus.Mtus.{Mtus}
 use Rattle.packets.specs.declared.packet6.Packet6.{Packet6}
 use Rattle.packets.specs.Packet6.{IsPacket6}
 use Rattle.relay_node.specs.Relay.{Relay}
-use Rattle.trace_text.specs.Numbers.{FitBook}
+use Rattle.rule_book.specs.Valid.{FitBook}
 use Rattle.trace_text.specs.Hops.{AreOctets, IsEmitted}
 use Rattle.trace_text.specs.Crossings.{Passed, Setting, IsNumbered, IsRelayOf, EdgeAnswer, HasCrossed, EdgeLetsOut, EdgeLetsIn}
 use Rattle.trace_text.specs.Onward.{EdgeEmits, RelayEmits, EdgeDelivers, RelayDelivers}

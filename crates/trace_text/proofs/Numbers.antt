@@ -44,7 +44,8 @@ use Rattle.nat_model.specs.Machine.{nat, timed, renewed, staying, same_holding, 
 use Rattle.nat_model.specs.Remote.{remote, behind, both, reached, sent, is_own, far_port}
 use Rattle.nat_model.specs.State.{Generation, NatState, NatStep, Moment, holder_at}
 use Rattle.nat_model.proofs.Soundness.{KeepsEnds, refreshed-keeps, kept-keeps, entered-keeps, ends-at, length-first_changed, least-passes}
-use Rattle.trace_text.specs.Numbers.{FitsRule, FitBook, FitsBinding, FitsNoted, FitsState, FitsAsk, FitsAnswer, FitsStart}
+use Rattle.rule_book.specs.Valid.{FitsRule, FitBook}
+use Rattle.trace_text.specs.Numbers.{FitsBinding, FitsNoted, FitsState, FitsAsk, FitsAnswer, FitsStart}
 use Rattle.trace_text.proofs.Addresses.{embedded_small, owned_small}
 
 -- ---- the edge's own address, and where a destination is reached

@@ -25,7 +25,7 @@ use Rattle.nat_model.specs.Machine.{renewed}
 use Rattle.nat_model.specs.State.{Generation}
 use Rattle.relay_node.specs.Relay.{Relay, own_of, extracted, source_addr}
 use Rattle.trace_text.specs.Answered.{Step, AreRulesOf, rules_of_step}
-use Rattle.trace_text.specs.Numbers.{FitBook, FitsRule}
+use Rattle.rule_book.specs.Valid.{FitBook, FitsRule}
 use Rattle.trace_text.specs.Crossings.{Setting, IsRelayOf}
 
 abbrev pub rule : Rule

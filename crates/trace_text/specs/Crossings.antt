@@ -18,7 +18,8 @@ use Rattle.crossing.specs.Nat44.{nat44_by}
 use Rattle.crossing.specs.Named.{Crossing, Portion}
 use Rattle.crossing.specs.Transfer.{ComesOf}
 use Rattle.trace_text.specs.Answered.{Step, AreRulesOf, AnsweredOut, AnsweredIn, rules_of_step}
-use Rattle.trace_text.specs.Numbers.{FitBook, FitsAnswer}
+use Rattle.rule_book.specs.Valid.{FitBook}
+use Rattle.trace_text.specs.Numbers.{FitsAnswer}
 use Rattle.trace_text.specs.Hops.{IsTaken4, EdgeSends, EdgeReceives, IsEmitted, RelaySends, RelayReceives}
 
 -- the packet as it was taken, how it passed the first node, what went over the access network and was read there, and what was

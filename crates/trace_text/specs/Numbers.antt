@@ -1,8 +1,7 @@
 -- Numbers fit their fields, as the types of rules, packets and bindings keep them.
 use Rattle.std.specs.Prelude.{◌<◌, ◌^◌, List, Option, Some, None}
 use Rattle.std.specs.List.{All}
-use Rattle.map_rules.specs.declared.rule.Rule.{Rule}
-use Rattle.map_rules.specs.declared.dmr.Dmr.{Dmr}
+use Rattle.rule_book.specs.Valid.{FitBook}
 use Rattle.l4_headers.specs.declared.ports.Ports.{Ports}
 use Rattle.xlat46.specs.Whole.{ArePorts}
 use Rattle.frag_table.specs.declared.note.Note.{Note}
@@ -14,16 +13,6 @@ use Rattle.nat_model.specs.declared.binding.Binding.{Binding}
 use Rattle.nat_model.specs.Fragment.{ports_of}
 use Rattle.nat_model.specs.History.{EdgeStart}
 use Rattle.nat_model.specs.State.{Generation, NatState}
-
--- prefixes of a rule are numbers of 32 and of 128 bits
-pub record FitsRule (r : Rule) : Type 0 where
-  pub prefix4 : r.prefix4.bits < 2 ^ 32
-  pub prefix6 : r.prefix6.bits < 2 ^ 128
-
--- rules, and the default mapping rule
-pub record FitBook (rules : List Rule) (dmr : Dmr) : Type 0 where
-  pub each : All FitsRule rules
-  pub default : dmr.prefix.bits < 2 ^ 128
 
 -- both ports of a binding are numbers of 16 bits, and so are those of a note
 pub record FitsBinding (b : Binding) : Type 0 where

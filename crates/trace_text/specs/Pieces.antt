@@ -14,7 +14,8 @@ use Rattle.crossing.specs.Named.{Crossing}
 use Rattle.crossing.specs.Nat44.{nat44}
 use Rattle.crossing.specs.Pieces.{Arrived, ComeTogether}
 use Rattle.trace_text.specs.Answered.{AreRulesOf, AnsweredOut, AnsweredIn, rules_of_step}
-use Rattle.trace_text.specs.Numbers.{FitBook, FitsAnswer}
+use Rattle.rule_book.specs.Valid.{FitBook}
+use Rattle.trace_text.specs.Numbers.{FitsAnswer}
 use Rattle.trace_text.specs.Hops.{IsTaken4, EdgeSends, EdgeReceives, RelaySends, RelayReceives}
 use Rattle.trace_text.specs.Crossings.{Setting, EdgeAnswer, IsRelayOf}
 

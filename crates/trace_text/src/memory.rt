@@ -3,7 +3,8 @@
 
 ghost use Rattle.std.specs.Prelude.{◌<◌, ◌^◌};
 ghost use Rattle.trace_text.specs.Hops.{AreOctets};
-ghost use Rattle.trace_text.specs.Numbers.{FitsRule, FitsBinding};
+ghost use Rattle.rule_book.specs.Valid.{FitsRule};
+ghost use Rattle.trace_text.specs.Numbers.{FitsBinding};
 
 use map_rules::{Dmr, Rule};
 use nat_model::Binding;
