@@ -1,9 +1,5 @@
 -- What a trace says of a hop: its note, and the entry that the note names.
-use Rattle.std.specs.Prelude.{◌≡◌, ℕ, ◌==◌, Bool, true, false, if◌then◌else◌, List, [], ◌∷◌, slice_get, Option, Some, None}
-use Rattle.octets.specs.declared.parcel.Parcel.{Parcel}
-use Rattle.frag_table.specs.declared.answer.FragAnswer.{FragAnswer}
-use Rattle.nat_model.specs.declared.answer.Answer.{Answer}
-use Rattle.nat_model.specs.declared.entry.Who.{Who}
+use Rattle.std.specs.Prelude.{ℕ, ◌==◌, if◌then◌else◌, List, [], ◌∷◌, slice_get, Option, Some, None}
 use Rattle.domain_core.specs.declared.journey.HopNote.{HopNote}
 use Rattle.domain_core.specs.declared.journey.Journey.{Journey}
 use Rattle.domain_core.specs.declared.history.EdgeNote.{EdgeNote}

@@ -47,7 +47,7 @@ use Rattle.domain_core.specs.declared.trace.Trace.{Trace}
 use Rattle.journeys.specs.declared.stand.Stand.{Stand}
 use Rattle.journeys.specs.declared.stand.Stand.TheVariants.{Edge, Relay as AtRelay}
 use Rattle.journeys.specs.Waiting.{Waiting, onward, start_of}
-use Rattle.journeys.specs.Answers.{and_then, note_of, edge_entry, stripe_entry, named_at_edge, named_at_relay}
+use Rattle.journeys.specs.Answers.{and_then, note_of, edge_entry, named_at_edge, named_at_relay}
 
 -- what packets are derived from: a trace, with the setup and the script that it is of
 pub record Told : Type 0 where

@@ -1,7 +1,7 @@
 -- The trace of one worker: it takes the items of the script in their order and makes one hop after the other, each with the
 -- number of changes before its record. So the entries of a history stand in the order of the hops that asked.
-use Rattle.std.specs.Prelude.{◌≡◌, ◌≢◌, ◌⊎◌, ℕ, zero, suc, Bool, ◌<◌, ◌+◌, ◌==◌, true, false, List, [], ◌∷◌, ◌++◌, map, length, slice_get, Option, Some, None}
-use Rattle.std.specs.List.{filter, flat_map, All}
+use Rattle.std.specs.Prelude.{◌≡◌, ◌≢◌, ◌⊎◌, ℕ, zero, suc, Bool, ◌==◌, true, false, List, [], ◌∷◌, ◌++◌, map, length, slice_get, Some, None}
+use Rattle.std.specs.List.{filter}
 use Rattle.octets.specs.declared.cause.Cause.{Cause}
 use Rattle.octets.specs.declared.parcel.Parcel.{Parcel}
 use Rattle.rule_book.specs.Book.{dmr_of}

@@ -1,8 +1,8 @@
 -- Where packets stand before a node takes them, where a record starts, and where what a node sends goes on (RFC 7599, section 6).
-use Rattle.std.specs.Prelude.{ℕ, nat_le, nat_eq, ◌/◌, ◌&&◌, Bool, true, false, if◌then◌else◌, List, length, Option, Some, None}
+use Rattle.std.specs.Prelude.{ℕ, ◌<◌, true, false, if◌then◌else◌, List, length, Option, Some, None}
 use Rattle.std.specs.Option.{option_map}
 use Rattle.std.specs.List.{position}
-use Rattle.octets.specs.Field.{octet, sixteen}
+use Rattle.ip6_packet.specs.Destination.{destination_in}
 use Rattle.rule_book.specs.Far.{has_addr6}
 use Rattle.rule_book.specs.Book.{dmr_of}
 use Rattle.hops.specs.declared.hop.Out.{Out}
@@ -23,6 +23,11 @@ pub record Waiting : Type 0 where
 abbrev pub at_stand : List ℕ → Stand → Waiting
 at_stand octets stand = record { stand = stand; octets = octets }
 
+-- an edge where one stands is one of the setup's
+abbrev pub StandsIn : Setup → Stand → Type 0
+StandsIn setup (Edge number way) = number < length setup.edges
+StandsIn setup (Relay six) = Unit {0}
+
 -- the edge whose prefix has an address, by its number; prefixes of edges don't overlap
 abbrev pub edge_with : List EdgeLine → ℕ → Option ℕ
 edge_with edges addr = position (λ (line : EdgeLine). has_addr6 line.prefix addr) edges
@@ -35,34 +40,43 @@ node_by setup dst None = if has_addr6 (dmr_of setup.book).prefix dst then Some (
 abbrev pub node_of : Setup → ℕ → Option Stand
 node_of setup dst = node_by setup dst (edge_with setup.edges dst)
 
--- an IPv6 packet has its destination in octets 24 to 39 (RFC 8200, section 3)
-abbrev pub destination6 : List ℕ → ℕ
-destination6 octets = sixteen octets 24
-
--- what goes over the access network stands at the node of its destination
-abbrev pub over_access : Setup → List ℕ → Option Waiting
-over_access setup octets = option_map (at_stand octets) (node_of setup (destination6 octets))
+-- Octets go over the access network to the node of their destination, and those that have none to no node.
+abbrev pub over_access : Setup → Option ℕ → Option Stand
+over_access setup None = None
+over_access setup (Some dst) = node_of setup dst
 
 -- what turns stands at its node once more
 abbrev pub turned_at : Stand → Stand
 turned_at (Edge number way) = Edge number Turned
 turned_at (Relay six) = Relay false
 
--- Where a packet goes that a node sends which took one here: on to a node, or out of the domain.
-abbrev pub onward : Setup → Stand → Out → Option Waiting
-onward setup here (OnLan octets) = None
-onward setup here (OnAccess octets) = over_access setup octets
-onward setup here (IntoCore octets) = None
-onward setup here (Turn octets) = Some (at_stand octets (turned_at here))
+-- Where a packet stands next that a node sends which took one here: at a node, or nowhere in the domain.
+abbrev pub next_stand : Setup → Stand → Out → Option Stand
+next_stand setup here (OnLan octets) = None
+next_stand setup here (OnAccess octets) = over_access setup (destination_in octets)
+next_stand setup here (IntoCore octets) = None
+next_stand setup here (Turn octets) = Some (turned_at here)
 
--- the octets have room for a header of IPv6 and its version
-abbrev pub is_header6 : List ℕ → Bool
-is_header6 octets = nat_le 40 (length octets) && nat_eq (octet octets 0 / 16) 6
+abbrev pub octets_of : Out → List ℕ
+octets_of (OnLan octets) = octets
+octets_of (OnAccess octets) = octets
+octets_of (IntoCore octets) = octets
+octets_of (Turn octets) = octets
+
+-- so it goes on
+abbrev pub onward : Setup → Stand → Out → Option Waiting
+onward setup here out = option_map (at_stand (octets_of out)) (next_stand setup here out)
 
 -- Where a record starts: at the edge of its LAN, at the relay, or at the node of its destination. Octets of the access network
 -- that are no header of IPv6 go to the relay, which says what is wrong with them.
+abbrev pub arrives_by : Setup → Option ℕ → Option Stand
+arrives_by setup None = Some (Relay true)
+arrives_by setup (Some dst) = node_of setup dst
+
+abbrev pub first_stand : Setup → Side → List ℕ → Option Stand
+first_stand setup (LanOf number) octets = Some (Edge number Lan)
+first_stand setup FromAccess octets = arrives_by setup (destination_in octets)
+first_stand setup FromCore octets = Some (Relay false)
+
 abbrev pub start_of : Setup → Side → List ℕ → Option Waiting
-start_of setup (LanOf number) octets = Some (at_stand octets (Edge number Lan))
-start_of setup FromAccess octets =
-    if is_header6 octets then over_access setup octets else Some (at_stand octets (Relay true))
-start_of setup FromCore octets = Some (at_stand octets (Relay false))
+start_of setup side octets = option_map (at_stand octets) (first_stand setup side octets)

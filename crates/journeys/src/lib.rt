@@ -2,9 +2,18 @@
 #![tactic(auto)]
 
 mod equal;
+mod journey;
+mod laws;
+mod made;
 mod route;
 mod stand;
 
 pub use equal::equal_values_are_the_same;
-pub use route::node_of;
+pub use journey::{MakesHops, walk};
+pub use laws::{
+    an_edge_sends_what_goes_less_far, the_relay_sends_what_goes_less_far,
+    what_one_worker_does_is_the_one_thread_trace,
+};
+pub use made::{MadeHop, MadeHops, Taking};
+pub use route::{first_stand, next_stand, node_of};
 pub use stand::Stand;

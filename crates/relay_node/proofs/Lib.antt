@@ -1,2 +1,1 @@
-mod Trials
 pub mod OneHop

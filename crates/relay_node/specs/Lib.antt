@@ -3,5 +3,4 @@ pub mod Relay
 pub mod FromAccess
 pub mod FromIpv4
 pub mod Hop
-pub mod Route
 pub mod Taken

@@ -1,0 +1,27 @@
+mod Trials
+mod Faults
+mod Replies
+mod Errors
+mod Outs
+mod AtEdge
+mod FromSix
+mod FromFour
+pub mod Ranks
+mod Levels
+pub mod Whole
+mod RunLists
+mod RunSteps
+mod RunQueue
+mod RunDerived
+mod RunNotes
+mod RunTables
+mod RunParts
+mod RunAtEdge
+mod RunFragments
+mod RunAtRelay
+mod RunSent
+mod RunItems
+mod RunEntries
+mod RunGood
+pub mod RunIsTrace
+pub mod RunWalk

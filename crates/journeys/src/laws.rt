@@ -1,0 +1,45 @@
+//! Laws: how far packets go. Each is the contract of a function that does nothing.
+
+ghost use Rattle.std.specs.Prelude.{◌≡◌, ℕ, Bool, List, [], true, Option, if◌then◌else◌};
+ghost use Rattle.frag_table.specs.declared.answer.FragAnswer.{FragAnswer as AnyFragAnswer};
+ghost use Rattle.nat_model.specs.declared.answer.Answer.{Answer as AnyAnswer};
+ghost use Rattle.nat_model.specs.Waiting.{freed_of};
+ghost use Rattle.rule_book.specs.Book.{dmr_of};
+ghost use Rattle.hops.specs.declared.hop.Hop.{Hop as AnyHop};
+ghost use Rattle.edge_node.specs.declared.way.Node.{Node as AnyNode};
+ghost use Rattle.edge_node.specs.declared.way.Way.{Way as AnyWay};
+ghost use Rattle.edge_node.specs.declared.way.Way.TheVariants.{Access as FromAccess};
+ghost use Rattle.edge_node.specs.Hop.{IsEdgeHop};
+ghost use Rattle.relay_node.specs.Relay.{Relay as AnyRelay};
+ghost use Rattle.relay_node.specs.Hop.{IsRelayHop};
+ghost use Rattle.mapt_setup.specs.declared.setup.Setup.{Setup as AnySetup};
+ghost use Rattle.mapt_setup.specs.declared.script.ScriptItem.{ScriptItem};
+ghost use Rattle.domain_core.specs.declared.trace.Trace.{Trace as AnyTrace};
+ghost use Rattle.journeys.specs.declared.stand.Stand.TheVariants.{Edge as AtEdge, Relay as AtRelay};
+ghost use Rattle.journeys.specs.Waiting.{at_stand};
+ghost use Rattle.journeys.specs.OneThread.{IsOneThread};
+ghost use Rattle.journeys.specs.Run.{IsRun};
+ghost use Rattle.journeys.specs.Rank.{is_fault4, is_fault6, freed_by_told, IsBook, SendsLess};
+
+/// Law: what a hop of an edge sends to nodes has a smaller rank than the packet that it took, where its answer frees nothing to an
+/// ICMP error from the access network. A machine's answer frees to a first fragment alone.
+pub fn an_edge_sends_what_goes_less_far()
+    ensures { (setup : AnySetup) (node : AnyNode) (number : ℕ) (way : AnyWay) (answer : AnyAnswer) (octets : List ℕ) (hop : AnyHop)
+        → (way ≡ FromAccess → is_fault6 octets ≡ true → freed_of answer ≡ []) → IsEdgeHop node way answer octets hop
+        → SendsLess setup (at_stand octets (AtEdge number way)) hop }
+{}
+
+/// Law: so has what a hop of the relay sends to nodes, under the rules of a book with the setup's default mapping rule.
+pub fn the_relay_sends_what_goes_less_far()
+    ensures { (setup : AnySetup) (relay : AnyRelay) (six : Bool) (octets : List ℕ) (told : Option AnyFragAnswer) (hop : AnyHop)
+        → relay.dmr ≡ dmr_of setup.book → IsBook relay
+        → ((if six then is_fault6 octets else is_fault4 octets) ≡ true → freed_by_told told ≡ [])
+        → IsRelayHop relay six octets told hop → SendsLess setup (at_stand octets (AtRelay six)) hop }
+{}
+
+/// Law: what one worker does with a script is told by the one-thread trace: each packet that a hop took follows from the answers in the
+/// trace, the journeys have all packets, and the histories are good.
+pub fn what_one_worker_does_is_the_one_thread_trace()
+    ensures { (setup : AnySetup) (script : List ScriptItem) (trace : AnyTrace) → IsRun setup script trace
+        → IsOneThread (record { setup = setup; script = script; trace = trace }) }
+{}
