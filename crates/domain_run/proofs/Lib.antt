@@ -1,0 +1,9 @@
+mod Released
+mod Steps
+mod RelaySteps
+mod Records
+mod Starting
+mod Replaying
+mod Finished
+mod Noted
+mod Takeable

@@ -1,0 +1,10 @@
+use Rattle.std.specs.Prelude.{◌≡◌, take, map, IsTrue}
+use Rattle.std.specs.List.{list_all}
+use Rattle.domain_core.specs.Form.{is_stripe_note_written}
+use Rattle.journeys.specs.OneThread.{stripe_note}
+use Rattle.domain_run.proofs.told.stripe_history_of.Given as goal
+
+-- the notes of the entries so far
+abbrev pub invariant-loop-entry : goal.invariant-loop-entry
+invariant-loop-entry l =
+    (l.notes ≡ map stripe_note (take l.entry-index l.entries)) × IsTrue (list_all is_stripe_note_written l.notes)
