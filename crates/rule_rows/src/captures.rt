@@ -2,6 +2,8 @@
 //! word of records with `,` between two, or `-`; a record is TIME:OCTETS, or COUNT*TIME:OCTETS for so many of them.
 
 use crate::parts::Parts;
+use crate::traces::say_trace;
+use domain_run::replay_one;
 use mapt_setup::{Capture, Script, ScriptItem, Setup, Side, captures_fit};
 use octets::Bytes;
 use pcap_files::{Records, Writer, read};
@@ -122,7 +124,11 @@ pub fn answer(
     match call {
         "fits" => said.flag(fits),
         "merge" if fits => say_script(&Script::merge(alloc, &setup, &captures)?, said),
-        "merge" => said.word("unmet"),
+        "trace" if fits => {
+            let script = Script::merge(alloc, &setup, &captures)?;
+            say_trace(alloc, &replay_one(alloc, &setup, &script)?, said)
+        }
+        "merge" | "trace" => said.word("unmet"),
         _ => Err(RowFault::NotARow),
     }
 }

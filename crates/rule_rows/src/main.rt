@@ -1,4 +1,4 @@
-//! Rows of the calls of port sets, mapping rules, rule books, options and configurations.
+//! Rows of the calls of port sets, mapping rules, rule books, options, configurations, and of scripts and their traces.
 #![tactic(auto)]
 
 mod books;
@@ -11,6 +11,7 @@ mod rules;
 mod sets;
 mod setups;
 mod spelling;
+mod traces;
 
 use calls::RuleCalls;
 use rows::compare_rows;
