@@ -211,7 +211,7 @@ more4 dmr fault octets none (OnAccess xs) is = (is.0, λ yes. absurd (cc))
 more4 dmr fault octets none (IntoCore xs) is = tt
 more4 dmr fault octets none (ToTurn xs) is = (none, is.1)
 
-freed4 : (relay : Relay) (octets : List ℕ) (parcels : List Parcel) → IsBook relay → (is_fault4 octets ≡ true → parcels ≡ []) → (ports : Ports) (hop : Hop)
+pub freed4 : (relay : Relay) (octets : List ℕ) (parcels : List Parcel) → IsBook relay → (is_fault4 octets ≡ true → parcels ≡ []) → (ports : Ports) (hop : Hop)
     → AreFreed4 relay ports parcels hop → Each (IsFromFour relay.dmr (is_fault4 octets)) hop.outs
 freed4 relay octets parcels book frees ports hop are = by (either (is_fault4 octets))
   where

@@ -119,7 +119,7 @@ more6 fault octets none (OnAccess xs) is = (none, is.1)
 more6 fault octets none (IntoCore xs) is = tt
 more6 fault octets none (ToTurn xs) is = λ yes. absurd (cc)
 
-freed6 : (relay : Relay) (octets : List ℕ) (parcels : List Parcel) → (is_fault6 octets ≡ true → parcels ≡ []) → (ports : Ports) (hop : Hop)
+pub freed6 : (relay : Relay) (octets : List ℕ) (parcels : List Parcel) → (is_fault6 octets ≡ true → parcels ≡ []) → (ports : Ports) (hop : Hop)
     → AreFreed6 relay ports parcels hop → Each (IsFromSix (is_fault6 octets)) hop.outs
 freed6 relay octets parcels frees ports hop are = by (either (is_fault6 octets))
   where

@@ -25,3 +25,7 @@ mod RunEntries
 mod RunGood
 pub mod RunIsTrace
 pub mod RunWalk
+mod RunKept
+mod Generations
+mod Depths
+mod NoneFreed

@@ -3,6 +3,8 @@ use Rattle.std.proofs.Common.{◌≡◌, refl, sym, ℕ, zero, suc, ◌<◌, ◌
 use Rattle.std.specs.Prelude.{slice_get}
 use Rattle.std.specs.Option.{option_map}
 use Rattle.ip6_packet.specs.Destination.{destination_in}
+use Rattle.octets.specs.declared.parcel.Parcel.{Parcel}
+use Rattle.l4_headers.specs.declared.ports.Ports.{Ports}
 use Rattle.map_rules.specs.declared.dmr.Dmr.{Dmr}
 use Rattle.rule_book.specs.Far.{has_addr6}
 use Rattle.rule_book.specs.Book.{dmr_of}
@@ -10,23 +12,25 @@ use Rattle.frag_table.specs.declared.answer.FragAnswer.{FragAnswer}
 use Rattle.nat_model.specs.declared.answer.Answer.{Answer}
 use Rattle.nat_model.specs.Waiting.{freed_of}
 use Rattle.hops.specs.declared.hop.Hop.{Hop}
+use Rattle.hops.specs.Hop.{then, AreFreed}
 use Rattle.hops.specs.declared.hop.Out.{Out}
 use Rattle.hops.specs.declared.hop.Out.TheVariants.{Lan as OnLan, Access as OnAccess, Core as IntoCore, Turn as ToTurn}
 use Rattle.edge_node.specs.declared.way.Node.{Node}
 use Rattle.edge_node.specs.declared.way.Way.{Way}
 use Rattle.edge_node.specs.declared.way.Way.TheVariants.{Lan, Access, Turned}
-use Rattle.edge_node.specs.Hop.{IsEdgeHop}
+use Rattle.edge_node.specs.Hop.{Becomes, Own, IsLaterAt, IsEdgeHop}
 use Rattle.relay_node.specs.Relay.{Relay as RelayOf}
 use Rattle.relay_node.specs.Hop.{IsRelayHop}
 use Rattle.mapt_setup.specs.declared.setup.Setup.{Setup}
 use Rattle.journeys.specs.declared.stand.Stand.{Stand}
 use Rattle.journeys.specs.declared.stand.Stand.TheVariants.{Edge, Relay}
 use Rattle.journeys.specs.Waiting.{Waiting, at_stand, edge_with, node_by, node_of, over_access, next_stand, octets_of, onward}
+use Rattle.journeys.specs.Derived.{FreesFrom}
 use Rattle.journeys.specs.Rank.{is_fault4, is_fault6, rank_at, rank, SendsLess, IsBook, freed_by_told}
-use Rattle.journeys.proofs.Outs.{Each, each_more}
-use Rattle.journeys.proofs.AtEdge.{IsFromAccess, IsFromItself, from_access, from_itself}
-use Rattle.journeys.proofs.FromSix.{IsFromSix, from_six}
-use Rattle.journeys.proofs.FromFour.{IsFromFour, from_four}
+use Rattle.journeys.proofs.Outs.{Each, each_both, each_is, each_more}
+use Rattle.journeys.proofs.AtEdge.{IsFromAccess, IsFromItself, own_from_access, freed_from_access, own_from_itself, freed_from_itself}
+use Rattle.journeys.proofs.FromSix.{IsFromSix, freed6, from_six}
+use Rattle.journeys.proofs.FromFour.{IsFromFour, freed4, from_four}
 
 -- ---- where packets of the access network stand
 
@@ -138,16 +142,34 @@ every : (P : Out → Type 0) (outs : List Out) → ((out : Out) → P out) → E
 every P [] all = tt
 every P (out ∷ outs) all = (all out, every P outs all)
 
--- at an edge, where none is freed to an ICMP error
+-- at an edge: the packet's own part, and what is freed, where that is none to an ICMP error
+pub own_sends : (setup : Setup) (node : Node) (number : ℕ) (way : Way) (answer : Answer) (octets : List ℕ) (own : Hop) → Own node way answer octets own
+    → Each (Falls setup (Edge number way) (rank_at (Edge number way) octets)) own.outs
+own_sends setup node number Lan answer octets own is = every _ own.outs (lan_falls setup number)
+own_sends setup node number Access answer octets own is =
+    each_more (IsFromAccess (is_fault6 octets)) (Falls setup (Edge number Access) (cond (is_fault6 octets) 1 4)) own.outs (access_falls setup number (is_fault6 octets))
+    (own_from_access node answer octets own is)
+own_sends setup node number Turned answer octets own is =
+    each_more IsFromItself (Falls setup (Edge number Turned) 1) own.outs (itself_falls setup number) (own_from_itself node answer octets own is)
+
+pub freed_sends : (setup : Setup) (node : Node) (number : ℕ) (way : Way) (answer : Answer) (octets : List ℕ) (parcels : List Parcel) (others : Hop)
+    → (way ≡ Access → is_fault6 octets ≡ true → parcels ≡ []) → AreFreed (IsLaterAt way) (Becomes node way answer) parcels others
+    → Each (Falls setup (Edge number way) (rank_at (Edge number way) octets)) others.outs
+freed_sends setup node number Lan answer octets parcels others frees are = every _ others.outs (lan_falls setup number)
+freed_sends setup node number Access answer octets parcels others frees are =
+    each_more (IsFromAccess (is_fault6 octets)) (Falls setup (Edge number Access) (cond (is_fault6 octets) 1 4)) others.outs (access_falls setup number (is_fault6 octets))
+    (freed_from_access node answer octets parcels others (frees refl) are)
+freed_sends setup node number Turned answer octets parcels others frees are =
+    each_more IsFromItself (Falls setup (Edge number Turned) 1) others.outs (itself_falls setup number) (freed_from_itself node answer parcels others are)
+
 pub edge_sends : (setup : Setup) (node : Node) (number : ℕ) (way : Way) (answer : Answer) (octets : List ℕ) (hop : Hop)
     → (way ≡ Access → is_fault6 octets ≡ true → freed_of answer ≡ []) → IsEdgeHop node way answer octets hop
     → Each (Falls setup (Edge number way) (rank_at (Edge number way) octets)) hop.outs
-edge_sends setup node number Lan answer octets hop frees is = every _ hop.outs (lan_falls setup number)
-edge_sends setup node number Access answer octets hop frees is =
-    each_more (IsFromAccess (is_fault6 octets)) (Falls setup (Edge number Access) (cond (is_fault6 octets) 1 4)) hop.outs (access_falls setup number (is_fault6 octets))
-    (from_access node answer octets hop (frees refl) is)
-edge_sends setup node number Turned answer octets hop frees is =
-    each_more IsFromItself (Falls setup (Edge number Turned) 1) hop.outs (itself_falls setup number) (from_itself node answer octets hop is)
+edge_sends setup node number way answer octets hop frees (own, others, own_is, others_are, is) =
+    each_is (Falls setup (Edge number way) (rank_at (Edge number way) octets)) hop (then own others) is
+    (each_both (Falls setup (Edge number way) (rank_at (Edge number way) octets)) own.outs others.outs
+    (own_sends setup node number way answer octets own own_is)
+    (freed_sends setup node number way answer octets (freed_of answer) others frees others_are))
 
 -- at the relay of the setup's default mapping rule
 pub relay_sends : (setup : Setup) (relay : RelayOf) (six : Bool) (octets : List ℕ) (told : Option FragAnswer) (hop : Hop) → relay.dmr ≡ dmr_of setup.book → IsBook relay
@@ -158,6 +180,17 @@ relay_sends setup relay true octets told hop same book frees is =
 relay_sends setup relay false octets told hop same book frees is =
     each_more (IsFromFour (dmr_of setup.book) (is_fault4 octets)) (Falls setup (Relay false) (cond (is_fault4 octets) 2 5)) hop.outs (four_falls setup (is_fault4 octets))
     (subst (λ (d : Dmr). Each (IsFromFour d (is_fault4 octets)) hop.outs) same (from_four relay octets told hop book frees is))
+
+-- what is freed there, where that is none to an ICMP error
+pub relay_freed_sends : (setup : Setup) (relay : RelayOf) (six : Bool) (octets : List ℕ) (ports : Ports) (parcels : List Parcel) (hop : Hop)
+    → relay.dmr ≡ dmr_of setup.book → IsBook relay → (cond six (is_fault6 octets) (is_fault4 octets) ≡ true → parcels ≡ []) → FreesFrom relay six ports parcels hop
+    → Each (Falls setup (Relay six) (rank_at (Relay six) octets)) hop.outs
+relay_freed_sends setup relay true octets ports parcels hop same book frees is =
+    each_more (IsFromSix (is_fault6 octets)) (Falls setup (Relay true) (cond (is_fault6 octets) 3 6)) hop.outs (six_falls setup (is_fault6 octets))
+    (freed6 relay octets parcels frees ports hop is)
+relay_freed_sends setup relay false octets ports parcels hop same book frees is =
+    each_more (IsFromFour (dmr_of setup.book) (is_fault4 octets)) (Falls setup (Relay false) (cond (is_fault4 octets) 2 5)) hop.outs (four_falls setup (is_fault4 octets))
+    (subst (λ (d : Dmr). Each (IsFromFour d (is_fault4 octets)) hop.outs) same (freed4 relay octets parcels book frees ports hop is))
 
 -- ---- by the places of what it sends
 

@@ -27,7 +27,8 @@ use Rattle.domain_core.specs.declared.history.EdgeNote.{EdgeNote}
 use Rattle.domain_core.specs.declared.journey.HopNote.{HopNote}
 use Rattle.journeys.specs.declared.stand.Stand.TheVariants.{Edge}
 use Rattle.journeys.specs.Answers.{edge_entry, named_at_edge}
-use Rattle.journeys.specs.Derived.{Told, Packet, Part as HopPart, made, Freeing, EdgeAt, freeing_edge, who_at_edge, IsFreedPart, AreFreedParts, AreEntryParts, AreAtEdge, alone, sent_on, sent_by_all}
+use Rattle.journeys.specs.Came.{came_to}
+use Rattle.journeys.specs.Derived.{Told, Packet, Part as HopPart, made, Freeing, EdgeAt, freeing_edge, who_at_edge, IsFreedPart, AreFreedParts, AreEntryParts, AreAtEdge, alone}
 use Rattle.journeys.specs.OneThread.{place_alone, places_alone, edge_note}
 use Rattle.journeys.specs.Run.{Step}
 use Rattle.journeys.proofs.RunParts.{freed_parts, both_parts, IsSeen, freed_part, freed_alone}
@@ -61,7 +62,7 @@ own_alone : (node : Node) (way : Way) (answer : Answer) (octets : List ℕ) (hop
 own_alone node way answer octets hop (inl is) = inl ((alone_at way answer).1 node octets hop is)
 own_alone node way answer octets hop (inr (cause, dropped, is, drops)) = inr (cause, dropped, ap places_alone is, drops)
 
-parcels_alone : (answer : Answer) → freed_of (places_alone answer) ≡ map place_alone (freed_of answer)
+pub parcels_alone : (answer : Answer) → freed_of (places_alone answer) ≡ map place_alone (freed_of answer)
 parcels_alone (Out from port src6 dst6 freed) = refl
 parcels_alone (Turn from port freed) = refl
 parcels_alone (In to port from peer freed) = refl
@@ -176,14 +177,14 @@ module _ (told : Told) (known : List Packet) (at : EdgeAt) (entries : List Entry
     pub asked_parts : (note : HopNote) (hop : Hop) → note.stripe ≡ None → note.place ≡ Some place → IsAnswerAt at.way entry.answer
         → IsEdgeHop at.node at.way entry.answer octets hop
         → (parts : List HopPart) × AreAtEdge told known at octets note parts
-        × (sent_by_all told.setup (Edge at.number at.way) parts ≡ sent_on told.setup (Edge at.number at.way) hop.outs)
+        × (came_to parts ≡ Some hop)
     asked_parts note hop no_stripe at_place kind (own, others, is, freed, both) =
         let rest = freed_parts (IsLaterAt at.way) (Becomes at.node at.way entry.answer)
-        (λ k part. IsFreedPart told known freeing (who_at_edge told.trace at.number k) part) told.setup (Edge at.number at.way)
+        (λ k part. IsFreedPart told known freeing (who_at_edge told.trace at.number k) part)
         (freed_of entry.answer) others freed parcel_part in
         let all = both_parts (Own at.node at.way (places_alone entry.answer) octets)
         (AreFreedParts (λ k part. IsFreedPart told known freeing (who_at_edge told.trace at.number k) part) (freed_of (places_alone entry.answer)))
-        told.setup (Edge at.number at.way) hop own others (own_alone at.node at.way entry.answer octets own is) both (
+        hop own others (own_alone at.node at.way entry.answer octets own is) both (
           rest.0,
           subst (λ (ps : List Parcel). AreFreedParts (λ k part. IsFreedPart told known freeing (who_at_edge told.trace at.number k) part) ps rest.0)
               (sym (parcels_alone entry.answer)) rest.1,
@@ -207,11 +208,11 @@ module _ (told : Told) (known : List Packet) (at : EdgeAt) (entries : List Entry
 pub unasked_parts : (told : Told) (known : List Packet) (at : EdgeAt) (octets : List ℕ) (note : HopNote) (cause : Cause) (hop : Hop)
     → IsDroppedAt at.way cause octets → IsEdgeHop at.node at.way (Refused cause []) octets hop
     → (parts : List HopPart) × AreAtEdge told known at octets note parts
-    × (sent_by_all told.setup (Edge at.number at.way) parts ≡ sent_on told.setup (Edge at.number at.way) hop.outs)
+    × (came_to parts ≡ Some hop)
 unasked_parts told known at octets note cause hop dropped (own, others, is, freed, both) =
     let none : AreFreedParts (λ k part. IsFreedPart told known (freeing_edge at (Refused cause [])) (who_at_edge told.trace at.number k) part) [] [] = refl in
     let all = both_parts (Own at.node at.way (Refused cause []) octets)
     (AreFreedParts (λ k part. IsFreedPart told known (freeing_edge at (Refused cause [])) (who_at_edge told.trace at.number k) part) [])
-    told.setup (Edge at.number at.way) hop own others is both
-    ([], none, ap (λ (h : Hop). sent_on told.setup (Edge at.number at.way) h.outs) (sym freed)) in
+    hop own others is both
+    ([], none, ap Some (sym freed)) in
     (all.0, inl (cause, dropped, all.1), all.2)

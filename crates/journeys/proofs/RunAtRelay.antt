@@ -20,10 +20,11 @@ use Rattle.domain_core.specs.declared.history.StripeNote.{StripeNote}
 use Rattle.domain_core.specs.declared.journey.HopNote.{HopNote}
 use Rattle.journeys.specs.declared.stand.Stand.TheVariants.{Relay as AtRelay}
 use Rattle.journeys.specs.Answers.{stripe_entry, named_at_relay}
-use Rattle.journeys.specs.Derived.{Told, Packet, Part, made, RelayAt, FreesFrom, freeing_relay, who_at_relay, own_answer, IsFreedPart, AreFreedParts, AreStripeParts, AreToldParts, AreAtRelay, alone, sent_on, sent_by_all}
+use Rattle.journeys.specs.Came.{came_to}
+use Rattle.journeys.specs.Derived.{Told, Packet, Part, made, RelayAt, FreesFrom, freeing_relay, who_at_relay, own_answer, IsFreedPart, AreFreedParts, AreStripeParts, AreToldParts, AreAtRelay, alone}
 use Rattle.journeys.specs.OneThread.{place_alone, told_alone, stripe_note}
 use Rattle.journeys.specs.Run.{Step}
-use Rattle.journeys.proofs.RunParts.{sent_alone, freed_parts, both_parts, IsSeen, freed_part, freed_alone}
+use Rattle.journeys.proofs.RunParts.{came_alone, freed_parts, both_parts, IsSeen, freed_part, freed_alone}
 use Rattle.journeys.proofs.RunTables.{IsStripeEntry}
 use Rattle.journeys.proofs.RunFragments.{kind_alone, same_side, first_side, later_side, IsLaterFrom, IsOneFrom, freed_from, frees_from, has_ports, released}
 
@@ -35,9 +36,9 @@ AreSeenBefore told known number entries place =
     (k : ℕ) (e : StripeEntry) → k < place → slice_get entries k ≡ Some e
     → (s : Step) × IsSeen told known e.who s.made.taken s.made.note × IsStripeEntry number s e
 
--- these parts send on what the hop sends
-abbrev pub SendOn : Told → RelayAt → Hop → (List Part → Type 0) → Type 0
-SendOn told at hop Are = (parts : List Part) × Are parts × (sent_by_all told.setup (AtRelay at.six) parts ≡ sent_on told.setup (AtRelay at.six) hop.outs)
+-- such parts came to the hop
+abbrev pub CameTo : Hop → (List Part → Type 0) → Type 0
+CameTo hop Are = (parts : List Part) × Are parts × (came_to parts ≡ Some hop)
 
 module _ (told : Told) (known : List Packet) (at : RelayAt) (number : ℕ) (entries : List StripeEntry) (place : ℕ) (entry : StripeEntry)
     (at_stripe : at.stripe ≡ Some number)
@@ -76,7 +77,7 @@ module _ (told : Told) (known : List Packet) (at : RelayAt) (number : ℕ) (entr
 
     -- by an answer that frees none
     plain_parts : (answer : FragAnswer) (hop : Hop) → own_answer (told_alone answer) ≡ answer → freed_by (told_alone answer) ≡ []
-        → IsRelayHop at.relay at.six octets (Some answer) hop → SendOn told at hop (AreStripeParts told known at octets (told_alone answer))
+        → IsRelayHop at.relay at.six octets (Some answer) hop → CameTo hop (AreStripeParts told known at octets (told_alone answer))
     plain_parts answer hop own none is =
         let h = has_ports at.six octets ask asks in (
           made hop ∷ [],
@@ -91,7 +92,7 @@ module _ (told : Told) (known : List Packet) (at : RelayAt) (number : ℕ) (entr
               refl,
             ),
           ),
-          sent_alone told.setup (AtRelay at.six) hop,
+          came_alone hop,
         )
       where
         IsOne : Ports → ℕ → Part → Type 0
@@ -99,7 +100,7 @@ module _ (told : Told) (known : List Packet) (at : RelayAt) (number : ℕ) (entr
 
     -- by its own
     parts_by : (answer : FragAnswer) (hop : Hop) → entry.answer ≡ answer → IsRelayHop at.relay at.six octets (Some answer) hop
-        → SendOn told at hop (AreStripeParts told known at octets (told_alone answer))
+        → CameTo hop (AreStripeParts told known at octets (told_alone answer))
     parts_by Noted hop same is = plain_parts Noted hop refl refl is
     parts_by (Known ports) hop same is = plain_parts (Known ports) hop refl refl is
     parts_by Held hop same is = plain_parts Held hop refl refl is
@@ -108,16 +109,16 @@ module _ (told : Told) (known : List Packet) (at : RelayAt) (number : ℕ) (entr
         let r = released at.relay at.six octets ask parcels hop asks is in
         let ports = r.0 in
         let rest = freed_parts (IsLaterFrom at.six) (IsOneFrom at.relay at.six ports)
-        (λ k part. IsFreedPart told known (freeing_relay told.trace at ports) (who_at_relay told.trace at.stripe k) part) told.setup (AtRelay at.six)
+        (λ k part. IsFreedPart told known (freeing_relay told.trace at ports) (who_at_relay told.trace at.stripe k) part)
         parcels r.3 (freed_from at.relay at.six ports parcels r.3 r.5)
         (λ a p one frees. parcel_part ports a p one (ap (λ (x : FragAnswer). slice_get (freed_by x) a) same ∙ frees)) in
         let all = both_parts (IsRelayHop at.relay at.six octets (Some Noted))
         (AreFreedParts (λ k part. IsFreedPart told known (freeing_relay told.trace at ports) (who_at_relay told.trace at.stripe k) part) (map place_alone parcels))
-        told.setup (AtRelay at.six) hop r.2 r.3 r.4 r.6 rest in
+        hop r.2 r.3 r.4 r.6 rest in
         (all.0, (ports, r.1, all.1), all.2)
 
     pub told_parts : (note : HopNote) (hop : Hop) → note.stripe ≡ at.stripe → note.place ≡ Some place → MayBeTold (Some ask) (Some entry.answer)
-        → IsRelayHop at.relay at.six octets (Some entry.answer) hop → SendOn told at hop (AreAtRelay told known at octets note)
+        → IsRelayHop at.relay at.six octets (Some entry.answer) hop → CameTo hop (AreAtRelay told known at octets note)
     told_parts note hop same_stripe at_place kind is =
         let all = parts_by entry.answer hop refl is in (
           all.0,
@@ -134,8 +135,8 @@ module _ (told : Told) (known : List Packet) (at : RelayAt) (number : ℕ) (entr
 -- one that is dropped before any note is asked, or is no fragment
 pub untold_parts : (told : Told) (known : List Packet) (at : RelayAt) (octets : List ℕ) (note : HopNote) (hop : Hop)
     → ((cause : Cause) × IsDroppedFrom at.six cause octets) ⊎ AsksFrom at.six octets None → IsRelayHop at.relay at.six octets None hop
-    → SendOn told at hop (AreAtRelay told known at octets note)
+    → CameTo hop (AreAtRelay told known at octets note)
 untold_parts told known at octets note hop (inl (cause, dropped)) is =
-    (made hop ∷ [], inl (cause, dropped, (hop, is, refl)), sent_alone told.setup (AtRelay at.six) hop)
+    (made hop ∷ [], inl (cause, dropped, (hop, is, refl)), came_alone hop)
 untold_parts told known at octets note hop (inr asks) is =
-    (made hop ∷ [], inr (inl (asks, (hop, is, refl))), sent_alone told.setup (AtRelay at.six) hop)
+    (made hop ∷ [], inr (inl (asks, (hop, is, refl))), came_alone hop)

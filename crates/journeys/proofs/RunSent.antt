@@ -1,4 +1,4 @@
--- Each step of a run makes parts that are derived from the trace and send on what it sends.
+-- Each step of a run makes parts that are derived from the trace, came to its hop, and send on what it sends.
 use Rattle.std.proofs.Common.{◌≡◌, refl, sym, ap, ◌∙◌, ℕ, ◌<◌, inl, inr, Bool, List, [], ◌∷◌, ◌++◌, map, length, Option, Some, subst, append_assoc, zero-add}
 use Rattle.std.specs.Prelude.{slice_get}
 use Rattle.octets.specs.declared.parcel.Parcel.{Parcel}
@@ -22,17 +22,31 @@ use Rattle.domain_core.specs.declared.trace.TraceItem.{TraceItem}
 use Rattle.journeys.specs.declared.stand.Stand.{Stand}
 use Rattle.journeys.specs.declared.stand.Stand.TheVariants.{Edge, Relay as AtRelay}
 use Rattle.journeys.specs.Answers.{and_then, note_of, edge_entry, stripe_entry}
-use Rattle.journeys.specs.Derived.{Told, Packet, packets_of, first_of, edge_node, relay_node, Part, EdgeAt, RelayAt, AreAtLine, AreAtStand, AreOfHop, sent_on, sent_by_all}
+use Rattle.journeys.specs.Walk.{Step as Made}
+use Rattle.journeys.specs.Came.{came_to, IsToldHop}
+use Rattle.journeys.specs.Derived.{Told, Packet, packets_of, first_of, edge_node, relay_node, Part, EdgeAt, RelayAt, AreAtLine, AreAtStand, AreOfHop}
 use Rattle.journeys.specs.OneThread.{edge_start, edge_note, stripe_note, key_of}
 use Rattle.journeys.specs.Run.{Histories, Step, IsAskedAt, IsUnaskedAt, IsToldAt, IsUntold, IsStepAt, IsStep, item_of, no_histories, IsRun}
-use Rattle.journeys.proofs.RunLists.{Every, every_behind, get_front, get_behind, get_within, get_map, get_written, set_same}
+use Rattle.journeys.proofs.RunLists.{Every, every_so, every_behind, get_front, get_behind, get_within, get_map, get_written, set_same}
 use Rattle.journeys.proofs.RunSteps.{steps_of, packets_in, steps_with, Chain, chain_at, run_chain, IsWalked, run_walked}
 use Rattle.journeys.proofs.RunDerived.{AreSentOf}
 use Rattle.journeys.proofs.RunNotes.{note_in, run_notes, packet_at}
 use Rattle.journeys.proofs.RunTables.{IsIn, owned_all, kept_all, IsEdgeEntry, IsStripeEntry, chain_adds, none_owned}
-use Rattle.journeys.proofs.RunParts.{IsSeen}
+use Rattle.journeys.proofs.RunParts.{sent_by_came, IsSeen}
 use Rattle.journeys.proofs.RunAtEdge.{asked_parts, unasked_parts}
 use Rattle.journeys.proofs.RunAtRelay.{told_parts, untold_parts}
+
+-- a step as a hop of its record
+abbrev pub kept_step : Step → Made
+kept_step s = record { hop = s.made.hop; taken = s.made.taken; note = s.made.note; came = s.hop }
+
+-- one that is told sends on what it sends
+told_sends : (told : Told) (known : List Packet) (s : Step) → IsToldHop told known s.made.rec (kept_step s) → AreSentOf told known s.made.rec s
+told_sends told known s is = (
+  is.parts,
+  subst (λ (n : Option HopNote). AreOfHop told known s.made.rec s.made.taken n is.parts) (sym is.noted) is.makes,
+  sent_by_came told.setup s.made.taken.stand is.parts s.hop is.comes,
+)
 
 -- what holds of each element, where it stands among them
 every_at : {A : Type 0} (P : A → Type 0) (front xs : List A) → ((before : List A) (x : A) (behind : List A) → front ++ xs ≡ before ++ x ∷ behind → P x) → Every P xs
@@ -109,10 +123,10 @@ module _ (setup : Setup) (script : List ScriptItem) (trace : Trace) (run : IsRun
   -- ---- one step
 
   -- where its packet stands
-  abbrev SentAt : List Packet → Step → Stand → Type 0
-  SentAt known s stand =
+  abbrev CameAt : List Packet → Step → Stand → Type 0
+  CameAt known s stand =
       (parts : List Part) × AreAtStand told known s.made.rec (record { stand = stand; octets = s.made.taken.octets }) s.made.note parts
-      × (sent_by_all setup stand parts ≡ sent_on setup stand s.hop.outs)
+      × (came_to parts ≡ Some s.hop)
 
   -- behind these steps, which the step follows that are known, and before others
   module _ (xs : List Step) (s : Step) (ys rest : List Step) (is : all_steps ≡ (xs ++ s ∷ ys) ++ rest) (from to : Histories)
@@ -122,9 +136,9 @@ module _ (setup : Setup) (script : List ScriptItem) (trace : Trace) (run : IsRun
       known = packets_in (xs ++ s ∷ ys)
 
       -- at an edge
-      asked_sent : (number : ℕ) (way : Way) (line : EdgeLine) → slice_get setup.edges number ≡ Some line → IsAskedAt setup line number way s from to
-          → SentAt known s (Edge number way)
-      asked_sent number way line at_line asked =
+      asked_came : (number : ℕ) (way : Way) (line : EdgeLine) → slice_get setup.edges number ≡ Some line → IsAskedAt setup line number way s from to
+          → CameAt known s (Edge number way)
+      asked_came number way line at_line asked =
           let added : slice_get to.edges number ≡ Some (asked.entries ++ asked.entry ∷ []) =
           ap (λ (h : Histories). slice_get h.edges number) asked.adds
           ∙ set_same from.edges number asked.entries (asked.entries ++ asked.entry ∷ []) asked.history in
@@ -151,9 +165,9 @@ module _ (setup : Setup) (script : List ScriptItem) (trace : Trace) (run : IsRun
               (get_within entries (entry ∷ more) k e within (ap (λ (es : List Entry). slice_get es k) (sym (append_assoc entries (entry ∷ []) more)) ∙ at)) in
               (owned.0, seen_in xs ys rest s is owned.0 owned.1 e.mark.who owned.2.is.rec owned.2.is.hop, owned.2)
 
-      unasked_sent : (number : ℕ) (way : Way) (line : EdgeLine) → slice_get setup.edges number ≡ Some line → IsUnaskedAt setup line way s from to
-          → SentAt known s (Edge number way)
-      unasked_sent number way line at_line unasked =
+      unasked_came : (number : ℕ) (way : Way) (line : EdgeLine) → slice_get setup.edges number ≡ Some line → IsUnaskedAt setup line way s from to
+          → CameAt known s (Edge number way)
+      unasked_came number way line at_line unasked =
           let at : EdgeAt = record { number = number; way = way; node = edge_node setup s.made.rec line } in
           let parts = unasked_parts told known at s.made.taken.octets s.made.note unasked.0 s.hop unasked.1 unasked.3 in (
             parts.0,
@@ -162,8 +176,8 @@ module _ (setup : Setup) (script : List ScriptItem) (trace : Trace) (run : IsRun
           )
 
       -- at the relay
-      told_sent : (six : Bool) → IsToldAt setup six s from to → SentAt known s (AtRelay six)
-      told_sent six asked =
+      told_came : (six : Bool) → IsToldAt setup six s from to → CameAt known s (AtRelay six)
+      told_came six asked =
           let number : ℕ = stripe (key_of asked.ask) in
           let added : slice_get to.stripes number ≡ Some (asked.entries ++ asked.entry ∷ []) =
           ap (λ (h : Histories). slice_get h.stripes number) asked.adds
@@ -187,34 +201,41 @@ module _ (setup : Setup) (script : List ScriptItem) (trace : Trace) (run : IsRun
               (get_within entries (entry ∷ more) k e within (ap (λ (es : List StripeEntry). slice_get es k) (sym (append_assoc entries (entry ∷ []) more)) ∙ at)) in
               (owned.0, seen_in xs ys rest s is owned.0 owned.1 e.who owned.2.is.rec owned.2.is.hop, owned.2)
 
-      untold_sent : (six : Bool) → IsUntold setup six s from to → SentAt known s (AtRelay six)
-      untold_sent six asked =
+      untold_came : (six : Bool) → IsUntold setup six s from to → CameAt known s (AtRelay six)
+      untold_came six asked =
           let at : RelayAt = record { relay = relay_node setup s.made.rec s.made.note.seen; six = six; stripe = s.made.note.stripe } in
           untold_parts told known at s.made.taken.octets s.made.note s.hop asked.0 asked.2
 
-      step_at : (stand : Stand) → IsStepAt setup stand s from to → SentAt known s stand
-      step_at (Edge number way) (line, there, inl unasked) = unasked_sent number way line there unasked
-      step_at (Edge number way) (line, there, inr asked) = asked_sent number way line there asked
-      step_at (AtRelay six) (inl asked) = untold_sent six asked
-      step_at (AtRelay six) (inr asked) = told_sent six asked
+      step_at : (stand : Stand) → IsStepAt setup stand s from to → CameAt known s stand
+      step_at (Edge number way) (line, there, inl unasked) = unasked_came number way line there unasked
+      step_at (Edge number way) (line, there, inr asked) = asked_came number way line there asked
+      step_at (AtRelay six) (inl asked) = untold_came six asked
+      step_at (AtRelay six) (inr asked) = told_came six asked
 
-      step_sent : IsStep setup s from to → AreSentOf told known s.made.rec s
-      step_sent step =
-          let parts = step_at s.made.taken.stand step in (
-            parts.0,
-            subst (λ (n : Option HopNote). AreOfHop told known s.made.rec s.made.taken n parts.0)
-                (sym (note_at xs s (ys ++ rest) (is ∙ append_assoc xs (s ∷ ys) rest))) parts.1,
-            parts.2,
-          )
+      step_told : IsStep setup s from to → IsToldHop told known s.made.rec (kept_step s)
+      step_told step =
+          let parts = step_at s.made.taken.stand step in
+          record {
+            takes = packet_at setup (first_of told) all_steps walked xs s ys rest is;
+            noted = note_at xs s (ys ++ rest) (is ∙ append_assoc xs (s ∷ ys) rest);
+            parts = parts.0;
+            makes = parts.1;
+            comes = parts.2;
+          }
 
   -- and all of them
-  pub all_sent : (known rest : List Step) → all_steps ≡ known ++ rest → Every (λ (s : Step). AreSentOf told (packets_in known) s.made.rec s) known
-  all_sent known rest is = every_at (λ (s : Step). AreSentOf told (packets_in known) s.made.rec s) [] known one
+  pub all_told : (known rest : List Step) → all_steps ≡ known ++ rest → Every (λ (s : Step). IsToldHop told (packets_in known) s.made.rec (kept_step s)) known
+  all_told known rest is = every_at (λ (s : Step). IsToldHop told (packets_in known) s.made.rec (kept_step s)) [] known one
     where
-      one : (xs : List Step) (s : Step) (ys : List Step) → known ≡ xs ++ s ∷ ys → AreSentOf told (packets_in known) s.made.rec s
+      one : (xs : List Step) (s : Step) (ys : List Step) → known ≡ xs ++ s ∷ ys → IsToldHop told (packets_in known) s.made.rec (kept_step s)
       one xs s ys among =
           let whole : all_steps ≡ (xs ++ s ∷ ys) ++ rest = is ∙ ap (λ (ss : List Step). ss ++ rest) among in
           let at = chain_at setup xs s (ys ++ rest) (no_histories setup) run.after
           (subst (λ (ss : List Step). Chain setup ss (no_histories setup) run.after) (whole ∙ append_assoc xs (s ∷ ys) rest) chain) in
-          subst (λ (ss : List Step). AreSentOf told (packets_in ss) s.made.rec s) (sym among)
-          (step_sent xs s ys rest whole at.0 at.1 at.2 at.4 at.3)
+          subst (λ (ss : List Step). IsToldHop told (packets_in ss) s.made.rec (kept_step s)) (sym among)
+          (step_told xs s ys rest whole at.0 at.1 at.2 at.4 at.3)
+
+  pub all_sent : (known rest : List Step) → all_steps ≡ known ++ rest → Every (λ (s : Step). AreSentOf told (packets_in known) s.made.rec s) known
+  all_sent known rest is =
+      every_so (λ (s : Step). IsToldHop told (packets_in known) s.made.rec (kept_step s)) (λ (s : Step). AreSentOf told (packets_in known) s.made.rec s)
+      (λ s. told_sends told (packets_in known) s) known (all_told known rest is)

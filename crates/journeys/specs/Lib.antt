@@ -6,3 +6,5 @@ pub mod OneThread
 pub mod Run
 pub mod Walk
 pub mod Level
+pub mod Came
+pub mod Depth

@@ -27,6 +27,7 @@ use Rattle.domain_core.specs.declared.history.StripeHistory.{StripeHistory}
 use Rattle.domain_core.specs.declared.trace.Trace.{Trace}
 use Rattle.domain_core.specs.declared.trace.TraceItem.{TraceItem}
 use Rattle.domain_core.specs.declared.trace.TraceItem.TheVariants.{Record, Live, Still}
+use Rattle.journeys.specs.declared.made.MadeHop.{MadeHop}
 use Rattle.journeys.specs.declared.made.Taking.{Taking}
 use Rattle.journeys.specs.declared.stand.Stand.{Stand}
 use Rattle.journeys.specs.declared.stand.Stand.TheVariants.{Edge, Relay}
@@ -158,6 +159,18 @@ Runs setup rec changes (Move number true ∷ script) runs before after =
     (others : List ItemRun) × Runs setup rec (suc changes) script others before after × (runs ≡ live number ∷ others)
 Runs setup rec changes (Move number false ∷ script) runs before after =
     (others : List ItemRun) × Runs setup rec (suc changes) script others before after × (runs ≡ still number ∷ others)
+
+-- ---- what is kept of it
+
+-- of a step, and of the records in their order, each its steps
+abbrev pub kept_of_step : Step → MadeHop
+kept_of_step step = record { stand = step.made.taken.stand; note = step.made.note; hop = step.hop }
+
+abbrev pub made_in : List ItemRun → List (List MadeHop)
+made_in [] = []
+made_in (ran rec steps ∷ runs) = map kept_of_step steps ∷ made_in runs
+made_in (live number ∷ runs) = made_in runs
+made_in (still number ∷ runs) = made_in runs
 
 -- ---- what a trace tells of it
 
