@@ -1,10 +1,8 @@
 -- What a hop of a trace sends goes less far than its packet, part by part; so no chain of hops has more than seven.
-use Rattle.std.proofs.Common.{◌≡◌, refl, sym, ap, ◌∙◌, ℕ, zero, suc, ◌<◌, ◌≤◌, inl, inr, Bool, true, false, cond, List, [], ◌∷◌, length, Option, Some, None, subst, arith, lit<}
+use Rattle.std.proofs.Common.{◌≡◌, refl, sym, ◌∙◌, ℕ, ◌<◌, ◌≤◌, inl, inr, Bool, true, false, cond, List, [], ◌∷◌, length, Option, Some, None, subst, arith, lit<}
 use Rattle.std.specs.Prelude.{slice_get}
 use Rattle.std.specs.Option.{option_map}
-use Rattle.octets.specs.declared.cause.Cause.{Cause}
 use Rattle.octets.specs.declared.parcel.Parcel.{Parcel}
-use Rattle.rule_book.specs.Book.{dmr_of}
 use Rattle.frag_table.specs.declared.answer.FragAnswer.{FragAnswer}
 use Rattle.frag_table.specs.declared.answer.FragAnswer.TheVariants.{Noted, Known, Held, Released, Full}
 use Rattle.frag_table.specs.Frag.{freed_by}
@@ -25,13 +23,13 @@ use Rattle.domain_core.specs.declared.history.EdgeNote.{EdgeNote}
 use Rattle.domain_core.specs.declared.history.StripeNote.{StripeNote}
 use Rattle.journeys.specs.declared.stand.Stand.{Stand}
 use Rattle.journeys.specs.declared.stand.Stand.TheVariants.{Edge, Relay}
-use Rattle.journeys.specs.Waiting.{Waiting, at_stand, onward}
+use Rattle.journeys.specs.Waiting.{Waiting, at_stand}
 use Rattle.journeys.specs.Answers.{named_at_edge, named_at_relay}
 use Rattle.journeys.specs.Derived.{Told, Packet, packets_of, edge_node, relay_node, Part, made, untold, Freeing, IsPartOf, IsFreedPart, AreFreedParts, EdgeAt, freeing_edge, who_at_edge, AreEdgeParts, AreEntryParts, AreAtEdge, RelayAt, freeing_relay, who_at_relay, own_answer, AreUnasked, AreStripeParts, AreToldParts, AreAtRelay, AreAtLine, AreAtStand, alone}
-use Rattle.journeys.specs.Rank.{is_fault4, is_fault6, rank_at, rank, freed_by_told, SendsLess}
+use Rattle.journeys.specs.Rank.{is_fault4, is_fault6, rank_at, rank, SendsLess}
 use Rattle.journeys.specs.Walk.{Step}
-use Rattle.journeys.specs.Came.{came_to, IsToldHop, AreJourneysBy, AreJourneys}
-use Rattle.journeys.specs.Depth.{HasBooks, is_fault_at, FreesNone, FreesNoneToError, IsHopOf, FreeNoneToErrors, SendsOn, GoesOn, IsChain}
+use Rattle.journeys.specs.Came.{came_to, IsToldHop, AreJourneys}
+use Rattle.journeys.specs.Depth.{HasBooks, is_fault_at, FreesNone, FreesNoneToError, IsHopOf, FreeNoneToErrors, IsChain}
 use Rattle.journeys.proofs.Outs.{Each, each_both, each_is}
 use Rattle.journeys.proofs.Ranks.{Falls, own_sends, freed_sends, relay_sends, relay_freed_sends, sends_less}
 use Rattle.journeys.proofs.Generations.{is_book}

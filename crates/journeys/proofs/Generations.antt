@@ -1,5 +1,5 @@
 -- The rules of each generation of a valid setup are those of a book.
-use Rattle.std.proofs.Common.{◌≡◌, refl, ℕ, zero, suc, ◌≤◌, Bool, true, false, List, [], ◌∷◌, length, None}
+use Rattle.std.proofs.Common.{◌≡◌, ℕ, zero, suc, List, [], ◌∷◌, None}
 use Rattle.std.specs.Prelude.{take}
 use Rattle.std.specs.Option.{option_or}
 use Rattle.map_rules.specs.declared.rule.Rule.{Rule}
@@ -12,7 +12,7 @@ use Rattle.rule_book.specs.Valid.{IsValid}
 use Rattle.rule_book.proofs.Sound.{or-None, valid-unless_refused}
 use Rattle.mapt_setup.specs.declared.moves.MoveLine.{MoveLine}
 use Rattle.mapt_setup.specs.declared.setup.Setup.{Setup}
-use Rattle.mapt_setup.specs.Generation.{rules_after_all, rules_in}
+use Rattle.mapt_setup.specs.Generation.{rules_after_all}
 use Rattle.mapt_setup.specs.Valid.{AreAccepted, IsValidSetup}
 use Rattle.journeys.specs.Derived.{relay_node}
 use Rattle.journeys.specs.Rank.{IsBook}

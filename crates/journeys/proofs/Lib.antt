@@ -28,4 +28,6 @@ pub mod RunWalk
 mod RunKept
 mod Generations
 mod Depths
+mod PartsOnce
+mod JourneysOnce
 mod NoneFreed

@@ -6,9 +6,7 @@ use Rattle.octets.specs.declared.parcel.Parcel.{Parcel}
 use Rattle.frag_table.specs.declared.ask.FragAsk.{FragAsk}
 use Rattle.frag_table.specs.Frag.{freed_by}
 use Rattle.nat_model.specs.declared.ask.Ask.{Ask}
-use Rattle.nat_model.specs.declared.ask.Part.{Part}
 use Rattle.nat_model.specs.declared.ask.Part.TheVariants.{First as FirstPart}
-use Rattle.nat_model.specs.declared.answer.Answer.{Answer}
 use Rattle.nat_model.specs.declared.entry.Entry.{Entry}
 use Rattle.nat_model.specs.declared.stripe.StripeEntry.{StripeEntry}
 use Rattle.nat_model.specs.Fragment.{part_of}
@@ -16,7 +14,6 @@ use Rattle.nat_model.specs.Kind.{IsFirst}
 use Rattle.nat_model.specs.State.{Generation}
 use Rattle.nat_model.specs.History.{EdgeStart, IsGood}
 use Rattle.nat_model.specs.Machine.{nat}
-use Rattle.nat_model.specs.Parcels.{edge_log, Frees, HasWaited}
 use Rattle.nat_model.specs.Waiting.{freed_of}
 use Rattle.nat_model.proofs.ParcelHistory.{edge-waited}
 use Rattle.edge_node.specs.declared.way.Way.{Way}
@@ -30,22 +27,21 @@ use Rattle.domain_core.specs.declared.journey.Journey.{Journey}
 use Rattle.domain_core.specs.declared.history.EdgeHistory.{EdgeHistory}
 use Rattle.domain_core.specs.declared.history.EdgeNote.{EdgeNote}
 use Rattle.domain_core.specs.declared.history.StripeHistory.{StripeHistory}
-use Rattle.domain_core.specs.declared.history.StripeNote.{StripeNote}
 use Rattle.domain_core.specs.declared.trace.TraceItem.{TraceItem}
-use Rattle.domain_core.specs.declared.trace.TraceItem.TheVariants.{Record, Live, Still}
 use Rattle.journeys.specs.declared.stand.Stand.{Stand}
 use Rattle.journeys.specs.declared.stand.Stand.TheVariants.{Edge, Relay}
 use Rattle.journeys.specs.Waiting.{Waiting}
-use Rattle.journeys.specs.Answers.{and_then, journey_of, edge_entry, stripe_entry, named_at_edge, named_at_relay}
+use Rattle.journeys.specs.Answers.{and_then, journey_of, named_at_edge, named_at_relay}
 use Rattle.journeys.specs.Derived.{Told, Packet, packets_of}
-use Rattle.journeys.specs.OneThread.{place_alone, edge_start, edge_note, generations, HopMade, hops_from, all_hops, AreItems, AreEdgeEntries, AddsAtEdge, AreStripeEntries, AddsAtStripe, IsEdgeHistory, IsStripeHistory, IsOneThread}
+use Rattle.journeys.specs.OneThread.{place_alone, edge_start, edge_note, generations, HopMade, hops_from, all_hops, AreItems, AreEdgeEntries, AddsAtEdge, AreStripeEntries, AddsAtStripe, IsOneThread}
 use Rattle.journeys.specs.Rank.{is_fault4, is_fault6}
 use Rattle.journeys.specs.Walk.{Step}
-use Rattle.journeys.specs.Came.{AreJourneysBy}
+use Rattle.journeys.specs.Came.{AreJourneys}
 use Rattle.journeys.specs.Depth.{is_fault_at, FreesNone, FreeNoneToErrors}
 use Rattle.journeys.proofs.RunLists.{get_map, get_written}
 use Rattle.journeys.proofs.RunAtEdge.{parcels_alone}
 use Rattle.journeys.proofs.Whole.{edge_frees_none, relay_frees_none}
+use Rattle.journeys.proofs.JourneysOnce.{same_packets}
 
 -- ---- the hops of a trace
 
@@ -263,10 +259,13 @@ module _ (told : Told) (one : IsOneThread told) (w : Waiting) (note : HopNote)
     hop_frees_none (Relay true) stands fault = relay_frees true stands fault
     hop_frees_none (Relay false) stands fault = relay_frees false stands fault
 
--- of the journeys by its packets
-pub none_freed : (told : Told) (journeys : List (List Step)) (one : IsOneThread told) → AreJourneysBy told one.packets journeys → FreeNoneToErrors told.trace journeys
-none_freed told journeys one are rec hop step (steps, there, at) fault =
+-- of the journeys of its trace, whose packets are those of any derivation
+pub none_freed : (told : Told) (journeys : List (List Step)) → IsOneThread told → AreJourneys told journeys → FreeNoneToErrors told.trace journeys
+none_freed told journeys one (packets, are) rec hop step (steps, there, at) fault =
     let is = (are.each rec steps there).each hop step at in
+    let same : packets_of rec packets ≡ packets_of rec one.packets = same_packets told packets one.packets are.derived one.derived are.whole one.whole rec in
+    let packet : slice_get (packets_of rec one.packets) step.hop ≡ Some step.taken =
+    subst (λ (ws : List Waiting). slice_get ws step.hop ≡ Some step.taken) same is.takes in
     hop_frees_none told one step.taken step.note
-    (all_take one.packets step.taken step.note rec step.hop is.takes 0 0 told.script told.trace.items one.items is.noted)
+    (all_take one.packets step.taken step.note rec step.hop packet 0 0 told.script told.trace.items one.items is.noted)
     step.taken.stand refl fault

@@ -9,13 +9,12 @@ use Rattle.mapt_setup.specs.declared.script.ScriptItem.TheVariants.{Rec, Move}
 use Rattle.mapt_setup.specs.Script.{is_record}
 use Rattle.domain_core.specs.declared.trace.Trace.{Trace}
 use Rattle.journeys.specs.declared.made.MadeHop.{MadeHop}
-use Rattle.journeys.specs.declared.made.Taking.{Taking}
 use Rattle.journeys.specs.Waiting.{Waiting, start_of}
 use Rattle.journeys.specs.Walk.{Step as Made, kept_of}
-use Rattle.journeys.specs.Derived.{Told, packets_of}
-use Rattle.journeys.specs.Came.{IsToldHop, IsToldJourney, AreJourneysBy, AreKept}
+use Rattle.journeys.specs.Derived.{Told}
+use Rattle.journeys.specs.Came.{IsToldHop, IsToldJourney, AreKept}
 use Rattle.journeys.specs.Run.{Histories, Step, first_waiting, ItemRun, ran, live, still, Runs, kept_of_step, made_in, no_histories, IsRun}
-use Rattle.journeys.proofs.RunLists.{Every, get_map, get_written}
+use Rattle.journeys.proofs.RunLists.{Every, get_written}
 use Rattle.journeys.proofs.RunSteps.{steps_of, packets_in, steps_with, taken_by, packets_with, first_with, later_with, run_records}
 use Rattle.journeys.proofs.RunQueue.{Hops, walk_hops}
 use Rattle.journeys.proofs.RunDerived.{are_derived, are_all}

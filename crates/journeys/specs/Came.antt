@@ -1,5 +1,5 @@
 -- What the hops of a trace came to: the journeys of its records, hop by hop, as its answers tell them. A trace that has no note of
--- a hop, or frees to one what isn't known, has no journeys; notes past a record's last packet are of no hop.
+-- a hop, or frees a parcel of a hop whose packet isn't derived, has no journeys. Notes past a record's last packet are of no hop.
 use Rattle.std.specs.Prelude.{◌≡◌, ℕ, List, [], ◌∷◌, map, length, slice_get, Option, Some, None}
 use Rattle.std.specs.Option.{option_map}
 use Rattle.std.specs.List.{filter}

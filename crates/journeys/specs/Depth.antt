@@ -26,7 +26,7 @@ pub record HasBooks (setup : Setup) : Type 0 where
 
 -- ---- what is freed to an ICMP error
 
--- octets are one that come from the access network or to the relay
+-- Octets are one that a node took from the access network, or the relay at all. Elsewhere their rank doesn't depend on it.
 abbrev pub is_fault_at : Stand → List ℕ → Bool
 is_fault_at (Edge number Lan) octets = false
 is_fault_at (Edge number Access) octets = is_fault6 octets

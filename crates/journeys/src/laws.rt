@@ -5,6 +5,7 @@ ghost use Rattle.frag_table.specs.declared.answer.FragAnswer.{FragAnswer as AnyF
 ghost use Rattle.nat_model.specs.declared.answer.Answer.{Answer as AnyAnswer};
 ghost use Rattle.nat_model.specs.Waiting.{freed_of};
 ghost use Rattle.rule_book.specs.Book.{dmr_of};
+ghost use Rattle.packets.specs.OneOf.{IsOneAtMost};
 ghost use Rattle.hops.specs.declared.hop.Hop.{Hop as AnyHop};
 ghost use Rattle.edge_node.specs.declared.way.Node.{Node as AnyNode};
 ghost use Rattle.edge_node.specs.declared.way.Way.{Way as AnyWay};
@@ -22,7 +23,7 @@ ghost use Rattle.journeys.specs.OneThread.{IsOneThread};
 ghost use Rattle.journeys.specs.Run.{IsRun, made_in};
 ghost use Rattle.journeys.specs.Walk.{Step as AnyStep};
 ghost use Rattle.journeys.specs.Derived.{Told};
-ghost use Rattle.journeys.specs.Came.{AreJourneysBy, AreJourneys, AreKept};
+ghost use Rattle.journeys.specs.Came.{AreJourneys, AreKept};
 ghost use Rattle.journeys.specs.Depth.{HasBooks, IsHopOf, FreeNoneToErrors, IsChain};
 ghost use Rattle.journeys.specs.Rank.{is_fault4, is_fault6, freed_by_told, IsBook, SendsLess};
 
@@ -70,8 +71,14 @@ pub fn no_hop_is_deeper_than_seven()
         → length chain ≤ 7 }
 {}
 
-/// Law: one worker's trace frees nothing to an ICMP error, in the journeys of its packets.
+/// Law: one worker's trace frees nothing to an ICMP error.
 pub fn nothing_is_freed_to_an_error_by_one_worker()
-    ensures { (told : Told) (journeys : List (List AnyStep)) (one : IsOneThread told) → AreJourneysBy told one.packets journeys
+    ensures { (told : Told) (journeys : List (List AnyStep)) → IsOneThread told → AreJourneys told journeys
         → FreeNoneToErrors told.trace journeys }
+{}
+
+/// Law: a trace has at most one set of journeys, and so they are kept in one way.
+pub fn the_journeys_of_a_trace_are_one()
+    ensures journeys { (told : Told) → IsOneAtMost (AreJourneys told) }
+    ensures kept { (told : Told) → IsOneAtMost (AreKept told) }
 {}
