@@ -1,4 +1,5 @@
 mod Trials
+mod CameTrials
 mod Faults
 mod Replies
 mod Errors

@@ -59,16 +59,17 @@ pub fn what_one_worker_keeps_is_what_its_trace_says()
 /// Law: in the journeys of any trace, what a hop sends to nodes has a smaller rank than the packet that it took, where no entry that a
 /// hop names frees to an ICMP error.
 pub fn no_hop_sends_further()
-    ensures { (told : Told) (journeys : List (List AnyStep)) (rec hop : ℕ) (step : AnyStep) → IsValidSetup told.setup → HasBooks told.setup
-        → AreJourneys told journeys → FreeNoneToErrors told.trace journeys → IsHopOf journeys rec hop step
+    ensures { (told : Told) (journeys : List (List AnyStep)) (rec hop : ℕ) (step : AnyStep)
+        → IsValidSetup told.setup → HasBooks told.setup → AreJourneys told journeys → FreeNoneToErrors told.trace journeys
+        → IsHopOf journeys rec hop step
         → SendsLess told.setup step.taken step.came }
 {}
 
 /// Law: so no chain of hops, each of which takes a packet that the one before sends on, has more than seven.
 pub fn no_hop_is_deeper_than_seven()
-    ensures { (told : Told) (journeys : List (List AnyStep)) (rec : ℕ) (chain : List AnyStep) → IsValidSetup told.setup → HasBooks told.setup
-        → AreJourneys told journeys → FreeNoneToErrors told.trace journeys → IsChain told.setup journeys rec chain
-        → length chain ≤ 7 }
+    ensures { (told : Told) (journeys : List (List AnyStep)) (rec : ℕ) (chain : List AnyStep)
+        → IsValidSetup told.setup → HasBooks told.setup → AreJourneys told journeys → FreeNoneToErrors told.trace journeys
+        → IsChain told.setup journeys rec chain → length chain ≤ 7 }
 {}
 
 /// Law: one worker's trace frees nothing to an ICMP error.
