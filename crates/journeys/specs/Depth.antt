@@ -19,7 +19,7 @@ use Rattle.journeys.specs.Answers.{named_at_edge, named_at_relay}
 use Rattle.journeys.specs.Rank.{is_fault4, is_fault6}
 use Rattle.journeys.specs.Walk.{Step}
 
--- The rules of generation 0 are valid, and the numbers in those of each generation have the width of their prefixes. Types keep both.
+-- The rules of generation 0 are valid, and the numbers in those of each generation have the width of their prefixes.
 pub record HasBooks (setup : Setup) : Type 0 where
   pub first : IsValid (rules_of setup.book) (dmr_of setup.book)
   pub fit : (generation : ℕ) → FitBook (rules_in setup generation) (dmr_of setup.book)
