@@ -19,11 +19,14 @@ use Rattle.domain_core.specs.declared.history.StripeHistory.{StripeHistory}
 use Rattle.domain_core.specs.declared.trace.Trace.{Trace}
 use Rattle.domain_core.specs.declared.trace.TraceItem.{TraceItem}
 use Rattle.domain_core.specs.Form.{has_form, is_item_written, is_edge_written, is_stripe_written, most_edges, stripe_count}
-use Rattle.journeys.specs.OneThread.{edge_note, stripe_note, edge_start}
+use Rattle.journeys.specs.OneThread.{edge_note, stripe_note, edge_start, IsOneThread}
+use Rattle.journeys.specs.Came.{AreKept}
 use Rattle.journeys.specs.Run.{IsRun, IsGoodAt, no_histories}
 use Rattle.domain_run.specs.declared.replay.Replay.{Replay}
 use Rattle.domain_run.specs.Machines.{histories_of, AreMachines}
 use Rattle.domain_run.specs.Items.{IsReplayed}
+use Rattle.journeys.proofs.RunIsTrace.{run_is_one_thread}
+use Rattle.journeys.proofs.RunKept.{run_is_kept}
 use Rattle.domain_run.proofs.Replaying.{runs_of}
 
 -- what stands within a list
@@ -69,7 +72,7 @@ good_stripe_at setup changes replay number entries are e = by (shown (λ (s : St
     by (stripe, here, is) = subst IsGoodStripe is (are.stripes_are number stripe here).good
 
 -- the run
-pub finished : (setup : Setup) (script : List ScriptItem) (replay : Replay) (trace : Trace) → IsReplayed setup script replay → trace.workers ≡ 1
+abbrev finished : (setup : Setup) (script : List ScriptItem) (replay : Replay) (trace : Trace) → IsReplayed setup script replay → trace.workers ≡ 1
     → trace.items ≡ replay.items.items
     → map (λ (h : EdgeHistory). h.notes) trace.edges ≡ map (map edge_note) (map (λ (e : EdgeShown). e.history) replay.machines.edges.items)
     → map (λ (h : StripeHistory). h.notes) trace.stripes ≡ map (map stripe_note) (map (λ (s : StripeShown). s.history) replay.machines.stripes.items)
@@ -85,6 +88,19 @@ finished setup script replay trace is workers items edges stripes = record {
   good = λ number entries e. good_at setup replay.changes replay number entries is.machines e;
   good_stripes = λ number entries e. good_stripe_at setup replay.changes replay number entries is.machines e;
 }
+
+-- what its trace is, and what is kept of it
+pub ends : (setup : Setup) (script : List ScriptItem) (replay : Replay) (trace : Trace) → IsReplayed setup script replay → trace.workers ≡ 1
+    → trace.items ≡ replay.items.items
+    → map (λ (h : EdgeHistory). h.notes) trace.edges ≡ map (map edge_note) (map (λ (e : EdgeShown). e.history) replay.machines.edges.items)
+    → map (λ (h : StripeHistory). h.notes) trace.stripes ≡ map (map stripe_note) (map (λ (s : StripeShown). s.history) replay.machines.stripes.items)
+    → IsOneThread (record { setup = setup; script = script; trace = trace })
+    × AreKept (record { setup = setup; script = script; trace = trace }) replay.kept.items
+ends setup script replay trace is workers items edges stripes =
+    let run : IsRun setup script trace = finished setup script replay trace is workers items edges stripes in (
+      run_is_one_thread setup script trace run,
+      subst (AreKept (record { setup = setup; script = script; trace = trace })) (sym is.kept) (run_is_kept setup script trace run),
+    )
 
 -- ---- its form
 

@@ -3,7 +3,7 @@ use Rattle.std.proofs.Common.{◌≡◌, refl, sym, ap, ◌∙◌, ℕ, suc, ◌
 use Rattle.std.specs.Prelude.{IsTrue, ◌&&◌}
 use Rattle.std.specs.List.{list_all}
 use Rattle.std.proofs.lemmas.Bool.{lt-ltb}
-use Rattle.std.proofs.lemmas.List.{map-append}
+use Rattle.std.proofs.lemmas.List.{map-append, append-nil}
 use Rattle.mapt_setup.specs.declared.script.ScriptItem.{ScriptItem}
 use Rattle.mapt_setup.specs.declared.script.ScriptItem.TheVariants.{Rec, Move}
 use Rattle.mapt_setup.specs.declared.setup.Setup.{Setup}
@@ -17,7 +17,7 @@ use Rattle.journeys.specs.declared.made.MadeHop.{MadeHop}
 use Rattle.journeys.specs.declared.made.Taking.{Taking}
 use Rattle.journeys.specs.Waiting.{start_of}
 use Rattle.journeys.specs.Walk.{Step, kept_of}
-use Rattle.journeys.specs.Run.{Histories, Step as RunStep, run_step, first_waiting, ItemRun, ran, live, still, Runs, item_of, no_histories}
+use Rattle.journeys.specs.Run.{Histories, Step as RunStep, run_step, first_waiting, ItemRun, ran, live, still, Runs, item_of, kept_of_step, made_in, no_histories}
 use Rattle.domain_run.specs.declared.replay.Replay.{Replay}
 use Rattle.domain_run.specs.Machines.{histories_of, AreMachines, IsTakenRecord}
 use Rattle.domain_run.specs.Items.{AreTakeable, RunsTo, IsReplayed, IsItemTaken}
@@ -80,6 +80,13 @@ form_more (y ∷ xs) x all one = by (is_item_written y) refl all (λ rest. form_
     by true e rest next = rw e (next rest)
     by false e rest next = absurd (cc)
 
+-- the hops of these items, and of those behind them
+made_more : (xs ys : List ItemRun) → made_in (xs ++ ys) ≡ made_in xs ++ made_in ys
+made_more [] ys = refl
+made_more (ran rec steps ∷ xs) ys = ap (λ (hops : List (List MadeHop)). map kept_of_step steps ∷ hops) (made_more xs ys)
+made_more (live number ∷ xs) ys = made_more xs ys
+made_more (still number ∷ xs) ys = made_more xs ys
+
 -- one item more
 pub replayed_more : (setup : Setup) (done : List ScriptItem) (item : ScriptItem) (before after : Replay) → IsReplayed setup done before → IsItemTaken setup item before after
     → IsReplayed setup (done ++ item ∷ []) after
@@ -88,6 +95,7 @@ replayed_more setup done item before after is taken = record {
   are = runs_more setup done (item ∷ []) 0 0 is.runs (taken.run ∷ []) (no_histories setup) (histories_of before.machines) (histories_of after.machines)
       before.records before.changes after.records after.changes is.are taken.are;
   items = taken.items ∙ ap (λ (xs : List TraceItem). xs ++ item_of taken.run ∷ []) is.items ∙ sym (map-append item_of is.runs (taken.run ∷ []));
+  kept = taken.kept ∙ ap (λ (hops : List (List MadeHop)). hops ++ made_in (taken.run ∷ [])) is.kept ∙ sym (made_more is.runs (taken.run ∷ []));
   machines = taken.machines;
   form = subst (λ (xs : List TraceItem). IsTrue (list_all is_item_written xs)) (sym taken.items) (form_more before.items.items (item_of taken.run) is.form taken.form);
 }
@@ -99,22 +107,25 @@ change_item true number = Live number 0
 change_item false number = Still number
 
 pub change_taken : (setup : Setup) (number : ℕ) (meanwhile : Bool) (item : TraceItem) (before after : Replay) → number < 2 ^ 32 → item ≡ change_item meanwhile number
-    → after.items.items ≡ before.items.items ++ item ∷ [] → after.records ≡ before.records → after.changes ≡ before.changes + 1
+    → after.items.items ≡ before.items.items ++ item ∷ [] → after.kept.items ≡ before.kept.items
+    → after.records ≡ before.records → after.changes ≡ before.changes + 1
     → AreMachines setup (before.changes + 1) after.machines → histories_of after.machines ≡ histories_of before.machines → IsItemTaken setup (Move number meanwhile) before after
-change_taken setup number true item before after fits is items records changes machines histories = record {
+change_taken setup number true item before after fits is items kept records changes machines histories = record {
   run = live number;
   are = ([], (refl, histories, records, changes ∙ one_more before.changes), refl);
   items = items ∙ ap (λ (x : TraceItem). before.items.items ++ x ∷ []) is;
+  kept = kept ∙ sym (append-nil before.kept.items);
   machines = subst (λ (c : ℕ). AreMachines setup c after.machines) (sym changes) machines;
   form = rw (lt-ltb number (2 ^ 32) fits) refl;
 }
   where
     one_more : (n : ℕ) → n + 1 ≡ suc n
     one_more n = omega arith
-change_taken setup number false item before after fits is items records changes machines histories = record {
+change_taken setup number false item before after fits is items kept records changes machines histories = record {
   run = still number;
   are = ([], (refl, histories, records, changes ∙ one_more before.changes), refl);
   items = items ∙ ap (λ (x : TraceItem). before.items.items ++ x ∷ []) is;
+  kept = kept ∙ sym (append-nil before.kept.items);
   machines = subst (λ (c : ℕ). AreMachines setup c after.machines) (sym changes) machines;
   form = rw (lt-ltb number (2 ^ 32) fits) refl;
 }
@@ -128,15 +139,21 @@ notes_are : (taking : Taking) (steps : List Step) → map (λ (m : MadeHop). m.n
 notes_are taking [] = refl
 notes_are taking (step ∷ steps) = ap (λ (ns : List HopNote). step.note ∷ ns) (notes_are taking steps)
 
+hops_are : (taking : Taking) (steps : List Step) → map kept_of steps ≡ map kept_of_step (map (run_step taking) steps)
+hops_are taking [] = refl
+hops_are taking (step ∷ steps) = ap (λ (hops : List MadeHop). kept_of step ∷ hops) (hops_are taking steps)
+
 pub record_taken : (setup : Setup) (side : Side) (time : ℕ) (octets : List ℕ) (kept : List MadeHop) (journey : Journey) (before after : Replay)
     → IsTakenRecord setup (record { rec = before.records; time = time; seen = before.changes }) (first_waiting (start_of setup side octets)) before.machines after.machines kept
     → journey ≡ record { rec = before.records; worker = 0; hops = map (λ (m : MadeHop). m.note) kept } → IsTrue (is_journey_written journey)
-    → after.items.items ≡ before.items.items ++ Record journey ∷ [] → after.records ≡ before.records + 1 → after.changes ≡ before.changes
+    → after.items.items ≡ before.items.items ++ Record journey ∷ [] → after.kept.items ≡ before.kept.items ++ kept ∷ []
+    → after.records ≡ before.records + 1 → after.changes ≡ before.changes
     → AreMachines setup before.changes after.machines → IsItemTaken setup (Rec side time octets) before after
-record_taken setup side time octets kept journey before after (steps, walks, kept_is) told form items records changes machines = record {
+record_taken setup side time octets kept journey before after (steps, walks, kept_is) told form items more records changes machines = record {
   run = ran before.records (map (run_step taking) steps);
   are = (map (run_step taking) steps, [], histories_of after.machines, walks, (refl, refl, records ∙ one_more before.records, changes), refl);
   items = items ∙ ap (λ (j : Journey). before.items.items ++ Record j ∷ []) is;
+  kept = more ∙ ap (λ (hops : List MadeHop). before.kept.items ++ hops ∷ []) (kept_is ∙ hops_are taking steps);
   machines = subst (λ (c : ℕ). AreMachines setup c after.machines) (sym changes) machines;
   form = subst (λ (j : Journey). IsTrue (is_journey_written j)) is form;
 }

@@ -1,20 +1,20 @@
 -- What belongs to a setup has what is taken: records of its sides, early enough, and no more changes than it has.
 use Rattle.std.proofs.Common.{◌≡◌, refl, ◌∙◌, ℕ, suc, ◌+◌, ◌<◌, ◌≤◌, List, [], ◌∷◌, length, arith}
-use Rattle.std.specs.Prelude.{◌^◌, IsTrue}
+use Rattle.std.specs.Prelude.{◌^◌}
 use Rattle.std.specs.List.{All, sum_by}
-use Rattle.std.proofs.lemmas.List.Elements.{All-nil, All-cons, All-append, All-map, All-head, All-tail}
-use Rattle.std.proofs.lemmas.List.Sorted.{All-permutation, sum_by-IsPermutation}
+use Rattle.std.proofs.lemmas.List.Elements.{All-head, All-tail}
+use Rattle.std.proofs.lemmas.List.Sorted.{sum_by-IsPermutation}
 use Rattle.std.proofs.lemmas.List.Sums.{sum_by-cons, sum_by-append}
 use Rattle.pcap_files.specs.declared.records.Record.{Record}
-use Rattle.pcap_files.specs.Written.{IsWritable, IsWritableTime}
+use Rattle.pcap_files.specs.Written.{IsWritableTime}
 use Rattle.mapt_setup.specs.declared.capture.Side.{Side}
 use Rattle.mapt_setup.specs.declared.capture.Capture.{Capture}
 use Rattle.mapt_setup.specs.declared.moves.MoveLine.{MoveLine}
 use Rattle.mapt_setup.specs.declared.script.ScriptItem.{ScriptItem}
 use Rattle.mapt_setup.specs.declared.script.ScriptItem.TheVariants.{Rec, Move}
 use Rattle.mapt_setup.specs.declared.setup.Setup.{Setup}
-use Rattle.mapt_setup.specs.Fit.{is_side_of, FitsSetup}
-use Rattle.mapt_setup.specs.Script.{BelongsTo, all_items, move_items, record_items, capture_items}
+use Rattle.mapt_setup.specs.Script.{BelongsTo, IsItemOf, all_items, move_items, record_items, capture_items}
+use Rattle.mapt_setup.proofs.Belonging.{items_are}
 use Rattle.domain_run.specs.Items.{AreTakeable}
 
 -- an item counts as a change, or doesn't
@@ -25,19 +25,10 @@ moved (Move number meanwhile) = 1
 abbrev moves_of : List ScriptItem → ℕ
 moves_of items = sum_by moved items
 
--- a record's side is one of the setup, and it's early enough
-abbrev IsItemOf : Setup → ScriptItem → Type 0
-IsItemOf setup (Rec side time bytes) = IsTrue (is_side_of setup side) × (time < 2 ^ 63)
-IsItemOf setup (Move number meanwhile) = Unit {0}
-
 early : (time : ℕ) → IsWritableTime time → time < 2 ^ 63
 early time writable = omega (arith, writable)
 
 -- ---- the changes
-
-moves_are : (setup : Setup) (number : ℕ) (changes : List MoveLine) → All (IsItemOf setup) (move_items number changes)
-moves_are setup number [] = All-nil (IsItemOf setup)
-moves_are setup number (move ∷ changes) = All-cons (IsItemOf setup) (Move number move.live) (move_items (suc number) changes) tt (moves_are setup (suc number) changes)
 
 moves_count : (number : ℕ) (changes : List MoveLine) → moves_of (move_items number changes) ≡ length changes
 moves_count number [] = refl
@@ -48,25 +39,12 @@ moves_count number (move ∷ changes) =
 
 -- ---- the records
 
-records_are : (setup : Setup) (side : Side) (records : List Record) → IsTrue (is_side_of setup side) → All IsWritable records
-    → All (IsItemOf setup) (record_items side records)
-records_are setup side records is_side writable =
-    All-map (IsItemOf setup) (λ (r : Record). Rec side r.time r.bytes) records (λ k d within. (is_side, early _ (writable k d within).0))
-
 records_count : (side : Side) (records : List Record) → moves_of (record_items side records) ≡ 0
 records_count side [] = refl
 records_count side (r ∷ records) =
     let first : moves_of (record_items side (r ∷ records)) ≡ 0 + moves_of (record_items side records) =
     sum_by-cons moved (Rec side r.time r.bytes) (record_items side records) in
     omega (arith, first, records_count side records)
-
-captures_are : (setup : Setup) (captures : List Capture) → All (λ (c : Capture). IsTrue (is_side_of setup c.side)) captures
-    → All (λ (c : Capture). All IsWritable c.records) captures → All (IsItemOf setup) (capture_items captures)
-captures_are setup [] sides writable = All-nil (IsItemOf setup)
-captures_are setup (c ∷ captures) sides writable =
-    All-append (IsItemOf setup) (record_items c.side c.records) (capture_items captures)
-    (records_are setup c.side c.records (All-head (λ (c : Capture). IsTrue (is_side_of setup c.side)) c captures sides) (All-head (λ (c : Capture). All IsWritable c.records) c captures writable))
-    (captures_are setup captures (All-tail (λ (c : Capture). IsTrue (is_side_of setup c.side)) c captures sides) (All-tail (λ (c : Capture). All IsWritable c.records) c captures writable))
 
 captures_count : (captures : List Capture) → moves_of (capture_items captures) ≡ 0
 captures_count [] = refl
@@ -75,10 +53,6 @@ captures_count (c ∷ captures) =
     omega (arith, both, records_count c.side c.records, captures_count captures)
 
 -- ---- all items, and then in any order
-
-all_are : (setup : Setup) (captures : List Capture) → FitsSetup setup captures → All (IsItemOf setup) (all_items setup.changes captures)
-all_are setup captures fit =
-    All-append (IsItemOf setup) (move_items 1 setup.changes) (capture_items captures) (moves_are setup 1 setup.changes) (captures_are setup captures fit.sides fit.writable)
 
 all_count : (changes : List MoveLine) (captures : List Capture) → moves_of (all_items changes captures) ≡ length changes
 all_count changes captures =
@@ -90,7 +64,7 @@ takeable setup changes [] are few = tt
 takeable setup changes (Rec side time bytes ∷ items) are few =
     let item = All-head (IsItemOf setup) (Rec side time bytes) items are in
     let rest = All-tail (IsItemOf setup) (Rec side time bytes) items are in
-    (item.0, item.1, takeable setup changes items rest (omega (arith, few, sum_by-cons moved (Rec side time bytes) items)))
+    (item.0, early time item.1.0, takeable setup changes items rest (omega (arith, few, sum_by-cons moved (Rec side time bytes) items)))
 takeable setup changes (Move number meanwhile ∷ items) are few =
     let rest = All-tail (IsItemOf setup) (Move number meanwhile) items are in
     let more = sum_by-cons moved (Move number meanwhile) items in
@@ -99,6 +73,5 @@ takeable setup changes (Move number meanwhile ∷ items) are few =
 pub script_takeable : (setup : Setup) (items : List ScriptItem) → BelongsTo setup items → AreTakeable setup 0 items
 script_takeable setup items belongs =
     let all = all_items setup.changes belongs.captures in
-    let are = All-permutation (IsItemOf setup) all items belongs.script.all (all_are setup belongs.captures belongs.fit) in
     let count : moves_of items ≡ length setup.changes = sum_by-IsPermutation moved all items belongs.script.all ∙ all_count setup.changes belongs.captures in
-    takeable setup 0 items are (omega (arith, count))
+    takeable setup 0 items (items_are setup items belongs) (omega (arith, count))

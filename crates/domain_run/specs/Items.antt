@@ -9,7 +9,7 @@ use Rattle.domain_core.specs.declared.journey.HopNote.{HopNote}
 use Rattle.domain_core.specs.Form.{relay, is_item_written}
 use Rattle.journeys.specs.declared.made.MadeHop.{MadeHop}
 use Rattle.journeys.specs.Waiting.{start_of}
-use Rattle.journeys.specs.Run.{Histories, Step as RunStep, Walks, first_waiting, ItemRun, ran, live, still, item_of, no_histories}
+use Rattle.journeys.specs.Run.{Histories, Step as RunStep, Walks, first_waiting, ItemRun, ran, live, still, item_of, made_in, no_histories}
 use Rattle.domain_run.specs.declared.replay.Replay.{Replay}
 use Rattle.domain_run.specs.Machines.{histories_of, AreMachines}
 
@@ -43,11 +43,12 @@ RunsTo setup rec changes (Move number true ∷ script) runs before last_rec last
 RunsTo setup rec changes (Move number false ∷ script) runs before last_rec last_changes after =
     (others : List ItemRun) × RunsTo setup rec (suc changes) script others before last_rec last_changes after × (runs ≡ still number ∷ others)
 
--- a replay between two items: the machines, what a trace tells so far, and the records and changes so far
+-- a replay between two items: the machines, what a trace tells so far, the hops of its records, and the records and changes so far
 pub record IsReplayed (setup : Setup) (done : List ScriptItem) (replay : Replay) : Type 0 where
   pub runs : List ItemRun
   pub are : RunsTo setup 0 0 done runs (no_histories setup) replay.records replay.changes (histories_of replay.machines)
   pub items : replay.items.items ≡ map item_of runs
+  pub kept : replay.kept.items ≡ made_in runs
   pub machines : AreMachines setup replay.changes replay.machines
   pub form : IsTrue (list_all is_item_written replay.items.items)
 
@@ -56,5 +57,6 @@ pub record IsItemTaken (setup : Setup) (item : ScriptItem) (before after : Repla
   pub run : ItemRun
   pub are : RunsTo setup before.records before.changes (item ∷ []) (run ∷ []) (histories_of before.machines) after.records after.changes (histories_of after.machines)
   pub items : after.items.items ≡ before.items.items ++ item_of run ∷ []
+  pub kept : after.kept.items ≡ before.kept.items ++ made_in (run ∷ [])
   pub machines : AreMachines setup after.changes after.machines
   pub form : IsTrue (is_item_written (item_of run))

@@ -12,4 +12,4 @@ mod start;
 mod told;
 
 pub use machines::Machines;
-pub use replay::replay_one;
+pub use replay::{Replayed, replay_kept, replay_one};

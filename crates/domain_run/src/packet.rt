@@ -7,7 +7,7 @@ use relay_node::RelayParams;
 use std::alloc::Global;
 
 /// The one worker.
-const WORKER: u32 = 0;
+pub(crate) const WORKER: u32 = 0;
 
 /// A packet that a hop is to take: its octets, the hop's number in its record, and what it is taken with.
 #[derive(Clone, Copy)]
@@ -39,6 +39,7 @@ impl<'a> Packet<'a> {
     {
         (self.taking.rec % 65536) as u16
     }
+
     /// What the relay goes by beside its rules.
     pub(crate) fn relay_params(&self) -> RelayParams
         ensures { result ≡ record { relay4 = self.now.setup.now.relay; mtus = self.now.setup.now.mtus } }

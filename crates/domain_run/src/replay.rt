@@ -5,20 +5,19 @@ ghost use Rattle.mapt_setup.specs.Script.{BelongsTo};
 ghost use Rattle.mapt_setup.specs.Valid.{IsValidSetup};
 ghost use Rattle.mapt_setup.specs.declared.script.ScriptItem.TheVariants.{Rec, Move};
 ghost use Rattle.journeys.specs.OneThread.{IsOneThread};
+ghost use Rattle.journeys.specs.Came.{AreKept};
 ghost use Rattle.domain_run.specs.Machines.{AreMachines};
 ghost use Rattle.domain_run.specs.Items.{AreTakeable, IsItemTaken};
 
 use crate::journey::journey_of;
 use crate::machines::Machines;
+use crate::packet::WORKER;
 use crate::told::{edge_histories_of, stripe_histories_of};
 use domain_core::{Trace, TraceItem, TraceItems};
-use journeys::Taking;
+use journeys::{MadeHops, Taking};
 use mapt_setup::{Script, ScriptItem, Setup, Side};
-use octets::NoMemory;
+use octets::{List, NoMemory};
 use std::alloc::Global;
-
-/// The one worker.
-const WORKER: u32 = 0;
 
 /// One more. A script has fewer items than numbers.
 fn next(count: u32) -> Result<u32, NoMemory>
@@ -27,13 +26,22 @@ fn next(count: u32) -> Result<u32, NoMemory>
     count.checked_add(1).ok_or(NoMemory)
 }
 
-/// A replay between two items of its script: the machines, what a trace tells so far, and how many records and changes there were.
+/// A replay between two items of its script: the machines, what a trace tells so far, the hops of each record, and how many records and
+/// changes there were.
 #[derive(Drop)]
 struct Replay {
     machines: Machines,
     items: Vec<TraceItem>,
+    kept: Vec<MadeHops>,
     records: u32,
     changes: u32,
+}
+
+/// What a replay comes to: its trace, and the hops of each record in their order, with what each of them sent and dropped.
+#[derive(Drop)]
+pub struct Replayed {
+    pub trace: Trace,
+    pub kept: List<MadeHops>,
 }
 
 impl Replay {
@@ -64,6 +72,7 @@ impl Replay {
             .take_record(alloc, setup, &taking, side, octets)?;
         let journey = journey_of(alloc, rec, hops.as_slice())?;
         self.items.push(TraceItem::Record(journey))?;
+        self.kept.push(hops)?;
         self.records = records;
         Ok(())
     }
@@ -113,15 +122,18 @@ impl Replay {
 }
 
 /// The trace of one worker that takes a script of this setup: it takes the items in their order and makes one hop after the other,
-/// each in the generation of the changes before its record.
-pub fn replay_one(alloc: Global, setup: &Setup, script: &Script) -> Result<Trace, NoMemory>
+/// each in the generation of the changes before its record. The hops are kept with what they sent: they are those of the trace, as they
+/// are derived from the answers in it.
+pub fn replay_kept(alloc: Global, setup: &Setup, script: &Script) -> Result<Replayed, NoMemory>
     requires valid { IsValidSetup setup.now }
     requires belongs { BelongsTo setup.now script.now }
-    ensures { IfOk result (λ trace. IsOneThread (record { setup = setup.now; script = script.now; trace = trace })) }
+    ensures trace { IfOk result (λ replayed. IsOneThread (record { setup = setup.now; script = script.now; trace = replayed.trace })) }
+    ensures kept { IfOk result (λ replayed. AreKept (record { setup = setup.now; script = script.now; trace = replayed.trace }) replayed.kept) }
 {
     let mut replay = Replay {
         machines: Machines::start(alloc, setup)?,
         items: Vec::new(alloc),
+        kept: Vec::new(alloc),
         records: 0,
         changes: 0,
     };
@@ -130,10 +142,24 @@ pub fn replay_one(alloc: Global, setup: &Setup, script: &Script) -> Result<Trace
     }
     let edges = edge_histories_of(alloc, &replay.machines.edges)?;
     let stripes = stripe_histories_of(alloc, &replay.machines.stripes)?;
-    Ok(Trace {
+    let trace = Trace {
         workers: 1,
         items: TraceItems::from_vec(replay.items),
         edges,
         stripes,
+    };
+    Ok(Replayed {
+        trace,
+        kept: List::from_vec(replay.kept),
     })
+}
+
+/// The trace alone.
+pub fn replay_one(alloc: Global, setup: &Setup, script: &Script) -> Result<Trace, NoMemory>
+    requires valid { IsValidSetup setup.now }
+    requires belongs { BelongsTo setup.now script.now }
+    ensures { IfOk result (λ trace. IsOneThread (record { setup = setup.now; script = script.now; trace = trace })) }
+{
+    let replayed = replay_kept(alloc, setup, script)?;
+    Ok(replayed.trace)
 }

@@ -10,7 +10,7 @@ mod FromFour
 pub mod Ranks
 mod Levels
 pub mod Whole
-mod RunLists
+pub mod RunLists
 mod RunSteps
 mod RunQueue
 mod RunDerived
@@ -26,7 +26,7 @@ mod RunEntries
 mod RunGood
 pub mod RunIsTrace
 pub mod RunWalk
-mod RunKept
+pub mod RunKept
 mod Generations
 mod Depths
 mod PartsOnce

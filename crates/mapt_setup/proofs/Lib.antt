@@ -10,3 +10,4 @@ pub mod Ordering
 pub mod OneScript
 pub mod Segments
 pub mod FitCaptures
+pub mod Belonging

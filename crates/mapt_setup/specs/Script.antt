@@ -1,13 +1,14 @@
 -- The script of a setup and its captures: all changes and all records in one list, by time; of one time changes
 -- before records, and of these the LANs in the order of the edges, the access network and the core; and of one
 -- file by their place in it.
-use Rattle.std.specs.Prelude.{ℕ, ◌-◌, suc, slice_get, Bool, true, false, List, [], ◌∷◌, ◌++◌, map, take, if◌then◌else◌}
+use Rattle.std.specs.Prelude.{ℕ, IsTrue, ◌-◌, suc, slice_get, Bool, true, false, List, [], ◌∷◌, ◌++◌, map, take, if◌then◌else◌}
 use Rattle.std.specs.Option.{option_map_or}
 use Rattle.std.specs.List.{flat_map, count_by}
 use Rattle.std.specs.List.Sorted.{IsPermutation, IsSorted, IsStable}
 use Rattle.std.specs.Ordering.{nat_cmp, ordering_then}
 use Rattle.std.specs.declared.cmp.Ordering.{Ordering}
 use Rattle.pcap_files.specs.declared.records.Record.{Record}
+use Rattle.pcap_files.specs.Written.{IsWritable}
 use Rattle.mapt_setup.specs.declared.capture.Side.{Side}
 use Rattle.mapt_setup.specs.declared.capture.Side.TheVariants.{Lan, Access, Core}
 use Rattle.mapt_setup.specs.declared.capture.Capture.{Capture}
@@ -15,7 +16,7 @@ use Rattle.mapt_setup.specs.declared.script.ScriptItem.{ScriptItem}
 use Rattle.mapt_setup.specs.declared.script.ScriptItem.TheVariants.{Rec, Move}
 use Rattle.mapt_setup.specs.declared.moves.MoveLine.{MoveLine}
 use Rattle.mapt_setup.specs.declared.setup.Setup.{Setup}
-use Rattle.mapt_setup.specs.Fit.{FitsSetup}
+use Rattle.mapt_setup.specs.Fit.{is_side_of, FitsSetup}
 
 -- changes stand before records, and of these the LANs before the access network, and this before the core
 abbrev pub kind_of : Side → ℕ
@@ -80,6 +81,11 @@ pub record BelongsTo (setup : Setup) (items : List ScriptItem) : Type 0 where
   pub captures : List Capture
   pub fit : FitsSetup setup captures
   pub script : IsScript setup.changes captures items
+
+-- an item of such a script: its record is one of a side of the setup, and one that a capture can hold
+abbrev pub IsItemOf : Setup → ScriptItem → Type 0
+IsItemOf setup (Rec side time bytes) = IsTrue (is_side_of setup side) × IsWritable (record { time = time; bytes = bytes })
+IsItemOf setup (Move number live) = Unit {0}
 
 -- ---- numbers and segments
 

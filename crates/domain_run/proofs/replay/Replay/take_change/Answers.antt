@@ -11,5 +11,5 @@ returns c =
       | else-live w ↦ w.item-is ∙ ap (λ (b : Bool). change_item b c.args.number) (sym w.if-live.false)
     ] in
     change_taken c.args.setup.now c.args.number c.args.live c.if-live.item c.args.self.now
-    (record { machines = c.change.new.self; items = c.push.new.self; records = c.args.self.now.records; changes = c.in_ok-changes.changes })
-    c.ranges.number.fits is c.in_ok-push.ensures.items refl c.in_ok-changes.ensures c.in_ok-change.ensures.machines c.in_ok-change.ensures.histories
+    (record { machines = c.change.new.self; items = c.push.new.self; kept = c.args.self.now.kept; records = c.args.self.now.records; changes = c.in_ok-changes.changes })
+    c.ranges.number.fits is c.in_ok-push.ensures.items refl refl c.in_ok-changes.ensures c.in_ok-change.ensures.machines c.in_ok-change.ensures.histories

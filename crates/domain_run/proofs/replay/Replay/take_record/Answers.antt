@@ -22,6 +22,6 @@ returns c =
     let before = c.args.self.now in
     let journey_with : List MadeHop → Journey = λ hops. record { rec = before.records; worker = 0; hops = map (λ (m : MadeHop). m.note) hops } in
     record_taken c.args.setup.now c.args.side c.args.time c.args.octets.now c.in_ok-hops.hops c.in_ok-journey.journey before
-    (record { machines = c.take_record.new.self; items = c.push.new.self; records = c.in_ok-records.records; changes = before.changes })
-    c.in_ok-hops.ensures.hops (c.in_ok-journey.ensures.told ∙ ap journey_with c.as_slice.ensures) c.in_ok-journey.ensures.form c.in_ok-push.ensures.items
+    (record { machines = c.take_record.new.self; items = c.push.new.self; kept = c.push-2.new.self; records = c.in_ok-records.records; changes = before.changes })
+    c.in_ok-hops.ensures.hops (c.in_ok-journey.ensures.told ∙ ap journey_with c.as_slice.ensures) c.in_ok-journey.ensures.form c.in_ok-push.ensures.items c.in_ok-push-2.ensures.items
     c.in_ok-records.ensures refl c.in_ok-hops.ensures.ready.machines_are

@@ -1,6 +1,6 @@
 use Rattle.std.specs.Prelude.{take}
 use Rattle.domain_run.specs.Items.{IsReplayed}
-use Rattle.domain_run.proofs.replay.replay_one.Given as goal
+use Rattle.domain_run.proofs.replay.replay_kept.Given as goal
 
 -- the items so far
 abbrev pub invariant-loop-item : goal.invariant-loop-item
